@@ -12,18 +12,20 @@ use Rattle.term_tags.specs.declared.kinds.TheConstants.{ATOMS, PIDS}
 use Rattle.term_tags.specs.Words.{boxed_word}
 use Rattle.term_tags.specs.declared.layouts.TheConstants.{MOST_PARTS}
 use Rattle.term_order.specs.Named.{is_named}
-use Rattle.term_words.specs.Role.{NEXT, RECORD_FIRST, IsSingle, OfObject, OfRecord, always}
+use Rattle.term_words.specs.Role.{NEXT, RECORD_FIRST, Idle, IsSingle, OfObject, OfRecord, always}
+use Rattle.term_words.specs.Object.{IsBinRecord}
+use Rattle.plain_term.specs.Bytes.{shared_bytes}
 use Rattle.term_words.specs.Kept.{Kept}
 use Rattle.term_words.specs.Stands.{Stands}
 use Rattle.term_build.specs.Taken.{IsFree}
-use Rattle.term_build.specs.Grows.{Grows, Built}
+use Rattle.term_build.specs.Grows.{Grows}
 use Rattle.term_build.specs.Clear.{IsRoom, Uses}
 use Rattle.shared_rec.specs.Record.{count_in}
 use Rattle.off_heap_list.specs.Links.{Links}
 use Rattle.item_build.specs.declared.bins.Making.{Making}
 use Rattle.item_build.specs.declared.building.BuildStop.{BuildStop}
 use Rattle.item_build.specs.declared.putting.TheConstants.{WIDE}
-use Rattle.item_build.specs.Reading.{IsItem, is_big_item, is_byte, is_long, long_bins, own_words, parts_after, tree_with}
+use Rattle.item_build.specs.Reading.{IsItem, bins_of, is_big_item, is_byte, is_long, own_words, parts_after, tree_with}
 
 -- The held words stand for these trees, in order.
 pub record HeldStand (c : ℕ → ℕ → Bool) (shared : List (List ℕ)) (mem held : List ℕ) (trees : List Tree) : Type 0 where
@@ -64,10 +66,78 @@ pub record Laid (c d : ℕ → ℕ → Bool) (shared : List (List ℕ)) (old new
   pub records : (v : ℕ) → d v RECORD_FIRST ≡ true → (c v RECORD_FIRST ≡ true) ⊎ ((i : ℕ) × ((i < n) × (v ≡ slice_index mem' (old.top + 6 * i + 3))))
   pub links : (os further : List ℕ) → IsSingle c → Links c mem head os further → Links d mem' head' (holders_from old.top n ++ os) further
 
--- By some test the long binaries are laid so.
-pub record LaidBins (c : ℕ → ℕ → Bool) (shared : List (List ℕ)) (old new : Room) (mem mem' : List ℕ) (was is : Making) (n : ℕ) : Type 0 where
+-- A record of the shared binary with this id lies at place v, and no object names it yet.
+pub record Waits (c : ℕ → ℕ → Bool) (shared : List (List ℕ)) (mem : List ℕ) (v id : ℕ) : Type 0 where
+  pub standing : IsBinRecord c mem v id (shared_bytes shared id)
+  pub count : count_in mem v ≡ 0
+  pub idle : Idle c (v + 2)
+
+-- The row begins with the places of such records: those of the n shared binaries after so many, in order.
+pub record RecordsWait (c : ℕ → ℕ → Bool) (shared : List (List ℕ)) (mem row : List ℕ) (serial n : ℕ) : Type 0 where
+  pub known : serial + n ≤ length shared
+  pub each : (i : ℕ) → i < n → Waits c shared mem (slice_index row i) (serial + suc i)
+
+-- So it is by some test without a role for the free words of the room.
+pub record HasRecords (room : Room) (mem row : List ℕ) (serial n : ℕ) : Type 0 where
   pub test : ℕ → ℕ → Bool
-  pub laid : Laid c test shared old new mem mem' was.head is.head was.serial n
+  pub shared : List (List ℕ)
+  pub free : IsFree test room.top room.end
+  pub waiting : RecordsWait test shared mem row serial n
+
+-- The held words stand, and by the same test so do the records of the long binaries among the items.
+pub record FindsParts (names : List (List ℕ)) (serial : ℕ) (room : Room) (mem held row : List ℕ) (n : ℕ) (code : List Item) : Type 0 where
+  pub parts : HasHeld names serial room mem held
+  pub waiting : RecordsWait parts.test (parts.shared ++ bins_of code) mem row serial n
+
+-- Roles of records grew at the end of the room: those of n new shared binaries, whose places the row begins with. A chain stands still.
+pub record Recorded (c d : ℕ → ℕ → Bool) (shared : List (List ℕ)) (old new : Room) (mem mem' row : List ℕ) (serial n : ℕ) : Type 0 where
+  pub more : (a k : ℕ) → c a k ≡ true → d a k ≡ true
+  pub within : (a k : ℕ) → d a k ≡ true → (c a k ≡ true) ⊎ ((new.end ≤ a) × ((a < old.end) × OfRecord k))
+  pub single : IsSingle c → IsSingle d
+  pub kept : Kept c d mem mem'
+  pub each : (i : ℕ) → i < n → Waits d shared mem' (slice_index row i) (serial + suc i)
+  pub fresh : (i : ℕ) → i < n → (new.end ≤ slice_index row i) × (slice_index row i + 4 ≤ old.end)
+  pub records : (v : ℕ) → d v RECORD_FIRST ≡ true → (c v RECORD_FIRST ≡ true) ⊎ ((i : ℕ) × ((i < n) × (v ≡ slice_index row i)))
+  pub links : (head : ℕ) (os further : List ℕ) → Links c mem head os further → Links d mem' head os further
+
+-- By some test they are.
+pub record RecordedBins (c : ℕ → ℕ → Bool) (shared : List (List ℕ)) (old new : Room) (mem mem' row : List ℕ) (serial n : ℕ) : Type 0 where
+  pub test : ℕ → ℕ → Bool
+  pub laid : Recorded c test shared old new mem mem' row serial n
+
+-- Roles of objects grew between two places. Of the first n records that the row tells, the holders lie side by side from the first
+-- place on, ids rising from above `serial`; each holder leads to the one before it, and the first one to what was the chain's first
+-- object. No other word `next` came to stand.
+pub record LaidOver (c d : ℕ → ℕ → Bool) (shared : List (List ℕ)) (top to : ℕ) (mem mem' row : List ℕ) (head head' serial n : ℕ) : Type 0 where
+  pub more : (a k : ℕ) → c a k ≡ true → d a k ≡ true
+  pub within : (a k : ℕ) → d a k ≡ true → (c a k ≡ true) ⊎ ((top ≤ a) × ((a < to) × OfObject k))
+  pub single : IsSingle c → IsSingle d
+  pub kept : Kept c d mem mem'
+  pub bins : (i : ℕ) → i < n → IsNewBin d shared mem' (top + 6 * i) (serial + suc i)
+  pub names : (i : ℕ) → i < n → slice_index mem' (top + 6 * i + 3) ≡ slice_index row i
+  pub nexts : (a : ℕ) → d a NEXT ≡ true → (c a NEXT ≡ true) ⊎ ((i : ℕ) × ((i < n) × (a ≡ top + 6 * i + 2)))
+  pub links : (os further : List ℕ) → IsSingle c → Links c mem head os further → Links d mem' head' (holders_from top n ++ os) further
+
+-- By some test they are.
+pub record OverBins (c : ℕ → ℕ → Bool) (shared : List (List ℕ)) (top to : ℕ) (mem mem' row : List ℕ) (was is : Making) (n : ℕ) : Type 0 where
+  pub test : ℕ → ℕ → Bool
+  pub laid : LaidOver c test shared top to mem mem' row was.head is.head was.serial n
+
+-- The room has its first free word at another place, and all words are as before but its free ones and the counts of the first n
+-- records that the row tells.
+pub record LeavesBut (row : List ℕ) (n : ℕ) (old new : Room) (mem mem' : List ℕ) : Type 0 where
+  pub same_start : new.start ≡ old.start
+  pub front : old.top ≤ new.top
+  pub order : new.top ≤ new.end
+  pub same_end : new.end ≡ old.end
+  pub same_len : length mem' ≡ length mem
+  pub others : (q : ℕ) → (q < old.top) ⊎ (old.end ≤ q) → ((i : ℕ) → i < n → q ≡ slice_index row i + 2 → ⊥) → slice_index mem' q ≡ slice_index mem q
+
+-- The word stands for the tree by a test that grew over such records.
+pub record MadeOver (c : ℕ → ℕ → Bool) (shared : List (List ℕ)) (old new : Room) (mem mem' row : List ℕ) (was is : Making) (n w : ℕ) (t : Tree) : Type 0 where
+  pub test : ℕ → ℕ → Bool
+  pub laid : LaidOver c test shared old.top new.top mem mem' row was.head is.head was.serial n
+  pub made : Stands test shared mem' w t
 
 -- The room has its free words between these places, and all words but the free ones of the room before are as before.
 pub record LeavesRoom (old new : Room) (mem mem' : List ℕ) : Type 0 where
@@ -113,6 +183,15 @@ pub record UsesSome (n : ℕ) (old new : Room) (mem mem' : List ℕ) : Type 0 wh
 pub record Spares (n : ℕ) (room : Room) (mem mem' : List ℕ) : Type 0 where
   pub same_len : length mem' ≡ length mem
   pub others : (q : ℕ) → (q < room.top) ⊎ (room.top + n ≤ q) → slice_index mem' q ≡ slice_index mem q
+
+-- What was built over such records is what the items come to: a word that stands for their tree, or the same reason for none.
+abbrev pub BuildsOver : (ℕ → ℕ → Bool) → List (List ℕ) → (old new : Room) (mem mem' row : List ℕ) (was is : Making) (n : ℕ) → Result ℕ BuildStop
+    → Result Tree BuildStop
+    → Type 0
+BuildsOver c shared old new mem mem' row was is n (Ok w) (Ok t) = MadeOver c shared old new mem mem' row was is n w t
+BuildsOver c shared old new mem mem' row was is n (Err e) (Err f) = e ≡ f
+BuildsOver c shared old new mem mem' row was is n (Ok w) (Err f) = ⊥
+BuildsOver c shared old new mem mem' row was is n (Err e) (Ok t) = ⊥
 
 -- What was built is what the items come to: a word that stands for their tree, or the same reason for none.
 abbrev pub BuildsTerm : (ℕ → ℕ → Bool) → List (List ℕ) → (old new : Room) (mem mem' : List ℕ) (was is : Making) (n : ℕ) → Result ℕ BuildStop

@@ -1,5 +1,5 @@
 // Binaries of a written term.
-ghost use Rattle.std.specs.Prelude.{◌≡◌, ℕ, suc, ◌+◌, ◌-◌, ◌*◌, ◌/◌, ◌^◌, ◌<◌, ◌≤◌, Bool, true, false, List, ◌++◌, length, drop, take, slice_index};
+ghost use Rattle.std.specs.Prelude.{◌≡◌, ℕ, suc, ◌+◌, ◌-◌, ◌*◌, ◌/◌, ◌^◌, ◌<◌, ◌≤◌, Bool, true, false, List, [], ◌∷◌, ◌++◌, ◌⊎◌, length, drop, take, slice_index};
 ghost use Rattle.plain_term.specs.Measures.{bin_words};
 ghost use Rattle.plain_term.specs.Bytes.{shared_bytes};
 ghost use Rattle.plain_term.specs.Tree.{Tree};
@@ -11,11 +11,11 @@ ghost use Rattle.term_build.specs.Taken.{IsFree, Taken};
 ghost use Rattle.term_build.specs.Clear.{IsRoom, Uses};
 ghost use Rattle.shared_rec.specs.Record.{WritesRecord, count_in, record_roles};
 ghost use Rattle.item_build.specs.Reading.{item_byte, bytes_in, bins_of, far_words_of, AreLed, bytes_after, is_byte as is_byte_item, holder_words as words_of_holder, is_long as is_long_bin, long_bins as long_in};
-ghost use Rattle.item_build.specs.Building.{LaidBins, LeavesRoom};
+ghost use Rattle.item_build.specs.Building.{HasRecords, LeavesBut, LeavesRoom, OverBins, RecordedBins, RecordsWait};
 
 use off_heap_list::chain;
 use plain_term::Item;
-use shared_rec::{HEAD_WORDS, write_bin};
+use shared_rec::{HEAD_WORDS, len_of as record_len, write_bin};
 use term_build::holder;
 use term_tags::MOST_HEAP_BYTES;
 use word_mem::{Room, WordMem};
@@ -83,65 +83,115 @@ fn len_of(item: Item) -> u64
     }
 }
 
-// Makes all long binaries of a written term, from left to right: records at the end of the room, holders at its front.
-pub fn lay_bins(mem: &mut WordMem, room: &mut Room, making: &mut Making, code: &[Item])
+/// Lays the records of all long binaries of a written term at the end of the room, from left to right, with count 0 and the serials
+/// after this one, and puts their places at the front of the row; how many there are. The room has the words of their holders too. A
+/// memory where records lie elsewhere lays them itself by `put_record`.
+pub fn lay_records(
+    mem: &mut WordMem,
+    room: &mut Room,
+    serial: u64,
+    row: &mut [u64],
+    code: &[Item],
+) -> usize
     requires places { IsRoom room.old mem.old }
-    requires somewhere { 0 < room.old.top }
     requires whole { AreLed code.now }
-    requires serials { making.old.serial + length code.now < 2 ^ 64 }
+    requires serials { serial + length code.now < 2 ^ 64 }
     requires words { room.old.top + (6 * long_in code.now + far_words_of code.now) ≤ room.old.end }
-    ensures laid { (c : ℕ → ℕ → Bool) (shared : List (List ℕ)) → IsFree c room.old.top room.old.end → length shared ≡ making.old.serial
-        → LaidBins c (shared ++ bins_of code.now) room.old room.new mem.old mem.new making.old making.new (long_in code.now) }
+    requires enough { length code.now ≤ length row.old }
+    ensures laid { (c : ℕ → ℕ → Bool) (shared : List (List ℕ)) → IsFree c room.old.top room.old.end → length shared ≡ serial
+        → RecordedBins c (shared ++ bins_of code.now) room.old room.new mem.old mem.new row.new serial (long_in code.now) }
     ensures leaves { LeavesRoom room.old room.new mem.old mem.new }
-    ensures front { room.new.top ≡ room.old.top + 6 * long_in code.now }
+    ensures count { result ≡ long_in code.now }
+    ensures front { room.new.top ≡ room.old.top }
     ensures back { room.new.end + far_words_of code.now ≡ room.old.end }
-    ensures serial { making.new.serial ≡ making.old.serial + long_in code.now }
+    ensures row { length row.new ≡ length row.old }
 {
+    let mut count = 0;
     for i in 0..code.len() {
         if is_long(code[i]) {
-            lay_bin(mem, room, making, len_of(code[i]), &code[i + 1..]);
+            lay_record(
+                mem,
+                room,
+                serial + count as u64,
+                len_of(code[i]),
+                &code[i + 1..],
+            );
+            row[count] = room.end;
+            count += 1;
         }
     }
+    count
 }
 
-// Makes one shared binary of n bytes, which these items are.
-fn lay_bin(mem: &mut WordMem, room: &mut Room, making: &mut Making, n: u64, bytes: &[Item])
-    requires places { IsRoom room.old mem.old }
-    requires somewhere { 0 < room.old.top }
-    requires inside { n ≤ length bytes.now }
-    requires serials { making.old.serial + 1 < 2 ^ 64 }
-    requires words { room.old.top + (6 + (4 + bin_words n)) ≤ room.old.end }
-    ensures laid { (c : ℕ → ℕ → Bool) (shared : List (List ℕ)) → IsFree c room.old.top room.old.end → making.old.serial + 1 ≤ length shared
-        → shared_bytes shared (making.old.serial + 1) ≡ bytes_in n bytes.now
-        → LaidBins c shared room.old room.new mem.old mem.new making.old making.new 1 }
-    ensures leaves { LeavesRoom room.old room.new mem.old mem.new }
-    ensures front { room.new.top ≡ room.old.top + 6 }
-    ensures back { room.new.end + (4 + bin_words n) ≡ room.old.end }
-    ensures serial { making.new.serial ≡ making.old.serial + 1 }
-{
-    making.serial += 1;
-    lay_record(mem, room, making.serial, n, bytes);
-    let place = room.top;
-    holder(mem, room, room.end, n, 0);
-    making.head = chain(mem, making.head, place);
-}
-
-// A record of these bytes with count 0, in the last words of the room.
+// A record of these bytes with count 0 and the next serial, in the last words of the room.
 fn lay_record(mem: &mut WordMem, room: &mut Room, serial: u64, n: u64, bytes: &[Item])
     requires places { IsRoom room.old mem.old }
     requires inside { n ≤ length bytes.now }
-    requires words { room.old.top + (4 + bin_words n) ≤ room.old.end }
+    requires serials { serial + 1 < 2 ^ 64 }
+    requires words { room.old.top + (4 + bin_words n) < room.old.end }
+    ensures laid { (c : ℕ → ℕ → Bool) (shared : List (List ℕ)) → IsFree c room.old.top room.old.end → shared_bytes shared (serial + 1) ≡ bytes_in n bytes.now
+        → RecordedBins c shared room.old room.new mem.old mem.new (room.new.end ∷ []) serial 1 }
     ensures room { room.new ≡ record { start = room.old.start; top = room.old.top; end = room.old.end - (4 + bin_words n) } }
-    ensures writes { WritesRecord room.new.end room.old.end mem.old mem.new }
-    ensures made { (c d : ℕ → ℕ → Bool) → Taken record_roles c d room.new.end (4 + bin_words n)
-        → IsBinRecord d mem.new room.new.end serial (bytes_in n bytes.now) }
-    ensures count { count_in mem.new room.new.end ≡ 0 }
+    ensures leaves { LeavesRoom room.old room.new mem.old mem.new }
 {
     mem.bounded();
     let rec = room.end - (HEAD_WORDS + (n + 7) / 8);
-    write_bin(mem, rec, serial, n);
-    put_bytes(mem, rec + HEAD_WORDS, n, bytes);
+    put_record(mem, rec, serial + 1, n, bytes);
     room.end = rec;
+}
+
+// Makes the holders of the first n records that the row tells, side by side at the front of the room.
+pub fn lay_holders(mem: &mut WordMem, room: &mut Room, making: &mut Making, row: &[u64], n: usize)
+    requires places { IsRoom room.old mem.old }
+    requires somewhere { 0 < room.old.top }
+    requires few { n ≤ length row.now }
+    requires serials { making.old.serial + n < 2 ^ 64 }
+    requires words { room.old.top + 6 * n ≤ room.old.end }
+    requires records { HasRecords room.old mem.old row.now making.old.serial n }
+    ensures laid { (c : ℕ → ℕ → Bool) (shared : List (List ℕ)) → IsFree c room.old.top room.old.end → RecordsWait c shared mem.old row.now making.old.serial n
+        → OverBins c shared room.old.top room.new.top mem.old mem.new row.now making.old making.new n }
+    ensures leaves { LeavesBut row.now n room.old room.new mem.old mem.new }
+    ensures front { room.new.top ≡ room.old.top + 6 * n }
+    ensures serial { making.new.serial ≡ making.old.serial + n }
+{
+    for i in 0..n {
+        lay_holder(mem, room, making, row[i]);
+    }
+}
+
+// Makes the holder of one record, and chains it.
+fn lay_holder(mem: &mut WordMem, room: &mut Room, making: &mut Making, rec: u64)
+    requires places { IsRoom room.old mem.old }
+    requires somewhere { 0 < room.old.top }
+    requires serials { making.old.serial + 1 < 2 ^ 64 }
+    requires words { room.old.top + 6 ≤ room.old.end }
+    requires records { HasRecords room.old mem.old (rec ∷ []) making.old.serial 1 }
+    ensures laid { (c : ℕ → ℕ → Bool) (shared : List (List ℕ)) → IsFree c room.old.top room.old.end → RecordsWait c shared mem.old (rec ∷ []) making.old.serial 1
+        → OverBins c shared room.old.top room.new.top mem.old mem.new (rec ∷ []) making.old making.new 1 }
+    ensures room { room.new ≡ record { start = room.old.start; top = room.old.top + 6; end = room.old.end } }
+    ensures serial { making.new.serial ≡ making.old.serial + 1 }
+    ensures same_len { length mem.new ≡ length mem.old }
+    ensures others { (q : ℕ) → (q < room.old.top) ⊎ (room.old.top + 6 ≤ q) → (q ≡ rec + 2 → ⊥) → slice_index mem.new q ≡ slice_index mem.old q }
+{
+    making.serial += 1;
+    let place = room.top;
+    let n = record_len(mem, rec);
+    holder(mem, room, rec, n, 0);
+    making.head = chain(mem, making.head, place);
+}
+
+/// Writes the record of a binary of `n` bytes, which these items are, with this serial and count 0: four words at place `at` and
+/// behind them the bytes, eight in each word. Nobody may use these words; who has the memory says where they lie.
+pub fn put_record(mem: &mut WordMem, at: u64, serial: u64, n: u64, bytes: &[Item])
+    requires inside { n ≤ length bytes.now }
+    requires places { at + (4 + bin_words n) ≤ length mem.old }
+    ensures writes { WritesRecord at (at + (4 + bin_words n)) mem.old mem.new }
+    ensures made { (c d : ℕ → ℕ → Bool) → Taken record_roles c d at (4 + bin_words n) → IsBinRecord d mem.new at serial (bytes_in n bytes.now) }
+    ensures count { count_in mem.new at ≡ 0 }
+{
+    mem.bounded();
+    write_bin(mem, at, serial, n);
+    put_bytes(mem, at + HEAD_WORDS, n, bytes);
 }
 
 // Writes n bytes, which these items are, eight in each word from a place on; unused bytes of the last word are 0.

@@ -4,10 +4,10 @@ ghost use Rattle.plain_term.specs.Tree.{Tree};
 ghost use Rattle.term_tags.specs.declared.layouts.TheConstants.{MOST_PARTS};
 ghost use Rattle.term_build.specs.Taken.{IsFree};
 ghost use Rattle.term_build.specs.Clear.{IsRoom};
-ghost use Rattle.item_build.specs.Reading.{IsWritten, bins_of, far_words_of, has_big_item, long_bins, outcome, own_words_of, read, item_words_of};
-ghost use Rattle.item_build.specs.Building.{BinsStand, BuildsTerm, CanRead, HasHeld, HeldStand, LeavesRoom, PutsAll, Spares, UsesSome};
+ghost use Rattle.item_build.specs.Reading.{IsWritten, bins_of, has_big_item, heap_words_of, long_bins, outcome, own_words_of, read};
+ghost use Rattle.item_build.specs.Building.{BinsStand, BuildsOver, CanRead, FindsParts, HeldStand, LeavesBut, PutsAll, RecordsWait, Spares, UsesSome};
 
-use crate::bins::{Making, holder_words, lay_bins};
+use crate::bins::{Making, holder_words, lay_holders};
 use crate::putting::{WIDE, put_item};
 use atom_names::AtomNames;
 use plain_term::Item;
@@ -23,8 +23,10 @@ pub enum BuildStop {
 
 /// The word of a written term. Its items are read from the last to the first; the words of the terms read so far stand
 /// at the end of `scratch`, the next one first. `held` has the words of the registers, which become parts as they are.
-/// Binaries of more than 64 bytes are made before, from left to right: their records lie at the end of the room, their holders at
-/// its front, and these join the chain. `Big` comes before `Size`; at a stop the room and the chain are as before.
+/// Who has the memory laid the records of its `n` binaries of more than 64 bytes, from left to right, with count 0, wherever they lie,
+/// and put their places at the front of `scratch`. Their holders are made before the items are read, side by side at the front of the
+/// room, and join the chain. `Big` comes before `Size`; at a stop the room and the chain are as before, and the caller gives its
+/// records back, whose counts may be 1.
 pub fn build(
     mem: &mut WordMem,
     room: &mut Room,
@@ -32,6 +34,7 @@ pub fn build(
     names: &AtomNames,
     scratch: &mut [u64],
     held: &[u64],
+    n: usize,
     code: &[Item],
 ) -> Result<u64, BuildStop>
     requires term { IsWritten (length names.now) (length held.now) code.now }
@@ -40,22 +43,22 @@ pub fn build(
     requires serials { making.old.serial + length code.now < 2 ^ 64 }
     requires places { IsRoom room.old mem.old }
     requires somewhere { 0 < room.old.top }
-    requires words { room.old.top + item_words_of code.now ≤ room.old.end }
-    requires held { HasHeld names.now making.old.serial room.old mem.old held.now }
+    requires words { room.old.top + heap_words_of code.now ≤ room.old.end }
+    requires count { n ≡ long_bins code.now }
+    requires finds { FindsParts names.now making.old.serial room.old mem.old held.now scratch.old n code.now }
     ensures builds { (c : ℕ → ℕ → Bool) (shared : List (List ℕ)) (trees : List Tree) → IsFree c room.old.top room.old.end → length shared ≡ making.old.serial
-        → HeldStand c shared mem.old held.now trees
-        → BuildsTerm c (shared ++ bins_of code.now) room.old room.new mem.old mem.new making.old making.new (long_bins code.now) result
+        → HeldStand c shared mem.old held.now trees → RecordsWait c (shared ++ bins_of code.now) mem.old scratch.old making.old.serial n
+        → BuildsOver c (shared ++ bins_of code.now) room.old room.new mem.old mem.new scratch.old making.old making.new n result
         (outcome names.now shared trees code.now) }
-    ensures leaves { LeavesRoom room.old room.new mem.old mem.new }
-    ensures few { room.new.top + room.old.end ≤ room.old.top + room.new.end + item_words_of code.now }
-    ensures back { OnOk result (room.new.end + far_words_of code.now ≡ room.old.end) }
-    ensures serial { OnOk result (making.new.serial ≡ making.old.serial + long_bins code.now) }
+    ensures leaves { LeavesBut scratch.old n room.old room.new mem.old mem.new }
+    ensures few { room.new.top ≤ room.old.top + heap_words_of code.now }
+    ensures serial { OnOk result (making.new.serial ≡ making.old.serial + n) }
     ensures stopped { OnErr result ((room.new ≡ room.old) × (making.new ≡ making.old)) }
     ensures row { length scratch.new ≡ length scratch.old }
 {
     let entry = *room;
     let before = *making;
-    lay_bins(mem, room, making, code);
+    lay_holders(mem, room, making, scratch, n);
     let bins = room.top;
     let stop = match put_items(mem, room, names, scratch, held, bins, code) {
         None => BuildStop::Big,

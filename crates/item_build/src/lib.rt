@@ -6,6 +6,6 @@ mod building;
 mod needs;
 mod putting;
 
-pub use bins::{HOLDER_WORDS, Making, long_bins};
+pub use bins::{HOLDER_WORDS, Making, lay_records, long_bins, put_record};
 pub use building::{BuildStop, build};
 pub use needs::{Needs, term_needs};

@@ -16,7 +16,7 @@ use crate::entering::enter_bins;
 use crate::gathering::gather;
 use crate::heap::OneHeap;
 use atom_names::AtomNames;
-use item_build::{BuildStop, Making, build};
+use item_build::{BuildStop, Making, build, lay_records};
 use plain_machine::Reg;
 use plain_term::Item;
 
@@ -49,6 +49,7 @@ impl OneHeap {
             head: self.halves.head,
         };
         let process = *self.halves.process(row);
+        let n = lay_records(&mut self.halves.mem, &mut room, serial, scratch, code);
         let w = build(
             &mut self.halves.mem,
             &mut room,
@@ -56,6 +57,7 @@ impl OneHeap {
             names,
             scratch,
             &process.regs,
+            n,
             code,
         )?;
         self.halves.mem.bounded();

@@ -1,5 +1,5 @@
--- A record at the end of a room and a holder at its front: roles grow, and the holder joins a chain.
-use Rattle.std.proofs.Common.{◌≡◌, ℕ, zero, suc, ◌+◌, ◌-◌, ◌*◌, ◌/◌, ◌%◌, ◌<◌, ◌≤◌, ◌⊎◌, if◌then◌else◌, Bool, true, false, List, [], ◌∷◌, ◌++◌, length, get_or, set, refl, sym, ◌∙◌, ap, subst, arith, inl, inr, length-set, get_or-set_other}
+-- A record that is written, and a holder that is laid over one and joins a chain: roles grow.
+use Rattle.std.proofs.Common.{◌≡◌, ℕ, zero, suc, ◌+◌, ◌-◌, ◌*◌, ◌/◌, ◌%◌, ◌<◌, ◌≤◌, ◌⊎◌, Bool, true, List, [], ◌∷◌, length, get_or, set, refl, sym, ◌∙◌, ap, subst, arith, inl, inr, length-set, get_or-set_other}
 use Rattle.std.proofs.lemmas.Grind.{get_or-set_at}
 use Rattle.word_mem.specs.declared.ranges.Room.{Room}
 use Rattle.plain_term.specs.Measures.{bin_words}
@@ -7,24 +7,23 @@ use Rattle.plain_term.specs.Bytes.{shared_bytes}
 use Rattle.plain_term.specs.Tree.Tree.{Shared}
 use Rattle.term_tags.specs.Words.{boxed_word, head_word}
 use Rattle.term_tags.specs.declared.layouts.TheConstants.{HOLDER}
-use Rattle.term_words.specs.Role.{NEXT, COUNT, FIRST, FURTHER, NAMES, RECORD, RECORD_FIRST, IsSingle, Idle, IsContent, OfObject, OfRecord}
+use Rattle.term_words.specs.Role.{NEXT, COUNT, FIRST, RECORD, RECORD_FIRST, IsSingle, Idle, IsContent, OfObject, OfRecord}
 use Rattle.term_words.specs.Object.{IsBinRecord, IsFunRecord, IsRecord, byte_of}
 use Rattle.term_words.specs.Stands.{Stands}
 use Rattle.term_words.specs.Kept.{Kept, Keeps}
 use Rattle.term_words.specs.Counted.{In}
-use Rattle.term_words.proofs.Framing.Frames.{frame}
 use Rattle.term_words.proofs.Placing.Roles.{record-role}
 use Rattle.term_words.proofs.ByKind.Inside.{record-inside}
 use Rattle.term_build.specs.Taken.{IsFree, Lie, Taken, of_holder, with_object}
 use Rattle.term_build.specs.Parts.{IsRecordOf}
-use Rattle.term_build.proofs.Taking.{beside-new, beside-old, holder-object, holder-next, with-object-single, with-object-taken, with-object-within, with-object-of}
+use Rattle.term_build.proofs.Taking.{beside-new, beside-old, holder-object, holder-next, with-object-single, with-object-taken}
 use Rattle.shared_rec.specs.Record.{WritesRecord, count_in, record_roles}
 use Rattle.shared_rec.proofs.Records.{record-first}
 use Rattle.shared_rec.proofs.Rows.{role-past}
-use Rattle.off_heap_list.specs.Links.{Links, IsLink, Leads, name_place, named, naming, names_it}
+use Rattle.off_heap_list.specs.Links.{Links, IsLink, name_place, named, naming, names_it}
 use Rattle.off_heap_list.proofs.Chaining.Chained.{holder-link, leads-stays, link-stays, naming-stays, no-naming}
 use Rattle.item_build.specs.declared.bins.Making.{Making}
-use Rattle.item_build.specs.Building.{IsNewBin, Laid, LaidBins, holders_from}
+use Rattle.item_build.specs.Building.{IsNewBin, LaidOver, OverBins, RecordedBins, Waits}
 
 -- Its count is one of its words.
 pub record-four : (c : ℕ → ℕ → Bool) (mem : List ℕ) (v n : ℕ) → IsRecord c mem v n → v + 2 < v + n
@@ -151,229 +150,245 @@ chained-others m2 m3 top rec head name w3 q a b =
     ∙ get_or-set_other (set m2 (named m2 top + 2) (count_in m2 (named m2 top) + 1)) (top + 2) q head 0 a
     ∙ get_or-set_other m2 (named m2 top + 2) q (count_in m2 (named m2 top) + 1) 0 apart
 
-pub laid-others : (top size rec limit head : ℕ) (m0 m1 m2 m3 : List ℕ) → top + 6 ≤ rec → rec + size ≡ limit → 4 ≤ size → WritesRecord rec limit m0 m1
-    → ((q : ℕ) → (q < top) ⊎ (top + 6 ≤ q) → get_or m2 q 0 ≡ get_or m1 q 0) → named m2 top ≡ rec
-    → m3 ≡ set (set m2 (named m2 top + 2) (count_in m2 (named m2 top) + 1)) (top + 2) head → (q : ℕ) → (q < top) ⊎ (limit ≤ q) → get_or m3 q 0 ≡ get_or m0 q 0
-laid-others top size rec limit head m0 m1 m2 m3 fits ends four w1 w2 name w3 q (inl low) =
-    chained-others m2 m3 top rec head name w3 q (λ e. omega (arith, e, low)) (λ e. omega (arith, e, low, fits)) ∙ w2 q (inl low) ∙ w1.others q (inl (omega (arith, low, fits)))
-laid-others top size rec limit head m0 m1 m2 m3 fits ends four w1 w2 name w3 q (inr high) =
-    chained-others m2 m3 top rec head name w3 q (λ e. omega (arith, e, high, fits, ends, four)) (λ e. omega (arith, e, high, ends, four))
-    ∙ w2 q (inr (omega (arith, high, fits, ends))) ∙ w1.others q (inr high)
+-- Words that are free are so as far as a holder goes.
+pub free-front : (c : ℕ → ℕ → Bool) (top limit : ℕ) → IsFree c top limit → top + 6 ≤ limit → IsFree c top (top + 6)
+free-front c top limit free fits a k h = elim (free a k h) [ inl low ↦ inl low | inr high ↦ inr (omega (arith, high, fits)) ]
 
--- One binary is laid: its record was written at `rec`, its holder at `top`, and the holder was chained.
-module _ (c : ℕ → ℕ → Bool) (shared : List (List ℕ)) (top n size rec limit serial head : ℕ) (bytes : List ℕ) (m0 m1 m2 m3 : List ℕ)
-    (free : IsFree c top limit) (somewhere : 0 < top) (fits : top + 6 ≤ rec) (ends : rec + size ≡ limit) (four : 4 ≤ size) (inside : limit ≤ length m0)
-    (w1 : WritesRecord rec limit m0 m1) (made1 : (c d : ℕ → ℕ → Bool) → Taken record_roles c d rec size → IsBinRecord d m1 rec (serial + 1) bytes) (zero_count : count_in m1 rec ≡ 0)
+-- A holder is laid at `top` over a record that waits, and chained.
+module _ (c : ℕ → ℕ → Bool) (shared : List (List ℕ)) (top n rec serial head : ℕ) (m1 m2 m3 : List ℕ)
+    (free : IsFree c top (top + 6)) (somewhere : 0 < top) (there : IsRecordOf c shared m1 rec n (serial + 1)) (zero_count : count_in m1 rec ≡ 0) (idle : Idle c (rec + 2))
     (len2 : length m2 ≡ length m1) (w2 : (q : ℕ) → (q < top) ⊎ (top + 6 ≤ q) → get_or m2 q 0 ≡ get_or m1 q 0)
     (lie2 : Lie m2 top (head_word HOLDER 5 ∷ n ∷ 0 ∷ rec ∷ 0 ∷ 0 ∷ []))
-    (made2 : (c d : ℕ → ℕ → Bool) (shared : List (List ℕ)) (id : ℕ) → Taken of_holder c d top 6 → IsRecordOf c shared m1 rec n id → Stands d shared m2 (boxed_word top) (Shared id))
+    (made2 : (d : ℕ → ℕ → Bool) → Taken of_holder c d top 6 → Stands d shared m2 (boxed_word top) (Shared (serial + 1)))
     (w3 : m3 ≡ set (set m2 (named m2 top + 2) (count_in m2 (named m2 top) + 1)) (top + 2) head)
     (kept3 : (c : ℕ → ℕ → Bool) → Idle c (top + 2) → Idle c (named m2 top + 2) → Keeps c c m2 m3)
-    (links3 : (c : ℕ → ℕ → Bool) (os further : List ℕ) → IsSingle c → Links c m2 head os further → IsLink c m2 top → (In top os → ⊥) → Links c m3 top (top ∷ os) further)
-    (len : length bytes ≡ n) (known : serial + 1 ≤ length shared) (is : shared_bytes shared (serial + 1) ≡ bytes) where
-  -- The test with the record beside, and with the holder too.
+    (links3 : (c : ℕ → ℕ → Bool) (os further : List ℕ) → IsSingle c → Links c m2 head os further → IsLink c m2 top → (In top os → ⊥) → Links c m3 top (top ∷ os) further) where
+  abbrev pub with_holder : ℕ → ℕ → Bool
+  with_holder = with_object of_holder c top 6
 
-  abbrev with_record : ℕ → ℕ → Bool
-  with_record = with_object record_roles c rec size
-
-  abbrev pub with_both : ℕ → ℕ → Bool
-  with_both = with_object of_holder with_record top 6
-
-  record-taken : Taken record_roles c with_record rec size
-  record-taken = with-object-taken record_roles c rec size (λ a k h. elim (free a k h) [ inl low ↦ inl (omega (arith, low, fits)) | inr high ↦ inr (omega (arith, high, ends)) ])
+  taken : Taken of_holder c with_holder top 6
+  taken = with-object-taken of_holder c top 6 free
 
   -- Where roles are.
-  tells : (a k : ℕ) → with_both a k ≡ true → ((c a k ≡ true) × ((a < top) ⊎ (limit ≤ a)))
-      ⊎ (((top ≤ a) × ((a < top + 6) × (of_holder (a - top) ≡ k))) ⊎ ((rec ≤ a) × ((a < limit) × (record_roles (a - rec) ≡ k))))
-  tells a k h = elim (object-tells of_holder with_record top 6 a k h) [
-    | inr inner ↦ inr (inl inner)
-    | inl (off, r) ↦ elim (object-tells record_roles c rec size a k r) [
-      | inr inner ↦ inr (inr (inner.0, (omega (arith, inner.1.0, ends), inner.1.1)))
-      | inl (far, old) ↦ inl (old, free a k old)
-    ]
-  ]
+  tells : (a k : ℕ) → with_holder a k ≡ true → ((c a k ≡ true) × ((a < top) ⊎ (top + 6 ≤ a))) ⊎ ((top ≤ a) × ((a < top + 6) × (of_holder (a - top) ≡ k)))
+  tells a k h = elim (object-tells of_holder c top 6 a k h) [ inr inner ↦ inr inner | inl (off, old) ↦ inl (old, free a k old) ]
 
-  holder-taken : Taken of_holder with_record with_both top 6
-  holder-taken = with-object-taken of_holder with_record top 6 (λ a k h. elim (object-tells record_roles c rec size a k h) [
-    | inl (far, old) ↦ elim (free a k old) [ inl low ↦ inl low | inr high ↦ inr (omega (arith, high, fits, ends)) ]
-    | inr inner ↦ inr (omega (arith, inner.0, fits))
-  ])
-
-  more : (a k : ℕ) → c a k ≡ true → with_both a k ≡ true
-  more a k h = holder-taken.more a k (record-taken.more a k h)
-
-  -- What is there.
+  rec-off : (rec + 2 < top) ⊎ (top + 6 ≤ rec + 2)
+  rec-off = free (rec + 2) COUNT there.record_is.counted
 
   named-is : named m2 top ≡ rec
   named-is = named-rec m2 top n rec lie2
 
-  same2 : (q : ℕ) → (q < top) ⊎ (limit ≤ q) → get_or m2 q 0 ≡ get_or m0 q 0
-  same2 q (inl low) = w2 q (inl low) ∙ w1.others q (inl (omega (arith, low, fits)))
-  same2 q (inr high) = w2 q (inr (omega (arith, high, fits, ends))) ∙ w1.others q (inr high)
-
   other3 : (q : ℕ) → (q ≡ top + 2 → ⊥) → (q ≡ rec + 2 → ⊥) → get_or m3 q 0 ≡ get_or m2 q 0
   other3 q a b = chained-others m2 m3 top rec head named-is w3 q a b
 
-  same3 : (q : ℕ) → (q < top) ⊎ (limit ≤ q) → get_or m3 q 0 ≡ get_or m0 q 0
-  same3 q apart = laid-others top size rec limit head m0 m1 m2 m3 fits ends four w1 w2 named-is w3 q apart
+  len3 : length m3 ≡ length m1
+  len3 = omega (arith, chained-len m2 m3 top head w3, len2)
 
-  len3 : length m3 ≡ length m0
-  len3 = omega (arith, chained-len m2 m3 top head w3, len2, w1.same_len)
-
-  count2 : count_in m2 rec ≡ 0
-  count2 = w2 (rec + 2) (inr (omega (arith, fits))) ∙ zero_count
+  pub held-others : (q : ℕ) → (q < top) ⊎ (top + 6 ≤ q) → (q ≡ rec + 2 → ⊥) → get_or m3 q 0 ≡ get_or m1 q 0
+  held-others q apart not_count = other3 q (λ e. elim apart [ inl low ↦ omega (arith, e, low) | inr high ↦ omega (arith, e, high) ]) not_count ∙ w2 q apart
 
   count3 : count_in m3 rec ≡ 1
   count3 =
-      let apart : rec + 2 ≡ top + 2 → ⊥ = λ e. omega (arith, e, fits) in
+      let apart : rec + 2 ≡ top + 2 → ⊥ = λ e. elim rec-off [ inl low ↦ omega (arith, e, low) | inr high ↦ omega (arith, e, high) ] in
       let at : rec + 2 ≡ named m2 top + 2 = ap (λ z. z + 2) (sym named-is) in
+      let zero2 : count_in m2 rec ≡ 0 = w2 (rec + 2) rec-off ∙ zero_count in
       ap (λ z. get_or z (rec + 2) 0) w3
       ∙ get_or-set_other (set m2 (named m2 top + 2) (count_in m2 (named m2 top) + 1)) (top + 2) (rec + 2) head 0 apart
-      ∙ get_or-set_at m2 (named m2 top + 2) (rec + 2) (count_in m2 (named m2 top) + 1) 0 at (omega (arith, named-is, len2, w1.same_len, inside, ends, four))
-      ∙ ap (λ z. z + 1) (ap (λ z. count_in m2 z) named-is ∙ count2)
+      ∙ get_or-set_at m2 (named m2 top + 2) (rec + 2) (count_in m2 (named m2 top) + 1) 0 at (omega (arith, named-is, len2, there.record_is.within))
+      ∙ ap (λ z. z + 1) (ap (λ z. count_in m2 z) named-is ∙ zero2)
 
   -- The holder stands.
 
-  named-there : IsRecordOf with_record shared m1 rec n (serial + 1)
-  named-there =
-      let P : List ℕ → Type 0 = λ z. IsBinRecord with_record m1 rec (serial + 1) z in
-      record { from_one = omega arith; known = known; size = ap length is ∙ len; record_is = subst P (sym is) (made1 c with_record record-taken) }
-
-  stands2 : Stands with_both shared m2 (boxed_word top) (Shared (serial + 1))
-  stands2 = made2 with_record with_both shared (serial + 1) holder-taken named-there
-
-  idle-next : Idle with_both (top + 2)
+  idle-next : Idle with_holder (top + 2)
   idle-next k content h = elim (tells (top + 2) k h) [
     | inl (old, inl low) ↦ omega (arith, low)
-    | inl (old, inr high) ↦ omega (arith, high, fits, ends)
-    | inr (inl inner) ↦ next-alone (top + 2 - top) k (omega arith) inner.1.1 content
-    | inr (inr inner) ↦ omega (arith, inner.0, fits)
+    | inl (old, inr high) ↦ omega (arith, high)
+    | inr inner ↦ next-alone (top + 2 - top) k (omega arith) inner.1.1 content
   ]
     where
       next-alone : (j k : ℕ) → j ≡ 2 → of_holder j ≡ k → IsContent k → ⊥
       next-alone j k two e content = let P : ℕ → Type 0 = λ z. of_holder z ≡ k in let at : of_holder 2 ≡ k = subst P two e in omega (arith, at, content)
 
-  idle-count : Idle with_both (rec + 2)
+  idle-count : Idle with_holder (rec + 2)
   idle-count k content h = elim (tells (rec + 2) k h) [
-    | inl (old, inl low) ↦ omega (arith, low, fits)
-    | inl (old, inr high) ↦ omega (arith, high, ends, four)
-    | inr (inl inner) ↦ omega (arith, inner.1.0, fits)
-    | inr (inr inner) ↦ count-alone (rec + 2 - rec) k (omega arith) inner.1.1 content
+    | inl (old, off) ↦ idle k content old
+    | inr inner ↦ elim rec-off [ inl low ↦ omega (arith, low, inner.0) | inr high ↦ omega (arith, high, inner.1.0) ]
   ]
-    where
-      count-alone : (j k : ℕ) → j ≡ 2 → record_roles j ≡ k → IsContent k → ⊥
-      count-alone j k two e content = let P : ℕ → Type 0 = λ z. record_roles z ≡ k in let at : record_roles 2 ≡ k = subst P two e in omega (arith, at, content)
 
-  stands3 : Stands with_both shared m3 (boxed_word top) (Shared (serial + 1))
+  stands2 : Stands with_holder shared m2 (boxed_word top) (Shared (serial + 1))
+  stands2 = made2 with_holder taken
+
+  stands3 : Stands with_holder shared m3 (boxed_word top) (Shared (serial + 1))
   stands3 =
-      let P : ℕ → Type 0 = λ z. Idle with_both (z + 2) in
-      (kept3 with_both idle-next (subst P (sym named-is) idle-count)).each shared (boxed_word top) (Shared (serial + 1)) stands2
+      let P : ℕ → Type 0 = λ z. Idle with_holder (z + 2) in
+      (kept3 with_holder idle-next (subst P (sym named-is) idle-count)).each shared (boxed_word top) (Shared (serial + 1)) stands2
 
-  kept2 : Kept c with_both m0 m2
-  kept2 = record { longer = omega (arith, len2, w1.same_len); weaker = more; same = λ a k content h. same2 a (free a k h) }
+  same2 : (a k : ℕ) → c a k ≡ true → get_or m2 a 0 ≡ get_or m1 a 0
+  same2 a k h = w2 a (free a k h)
 
-  -- Records of before, and the new one.
+  kept2 : Kept c with_holder m1 m2
+  kept2 = record { longer = omega (arith, len2); weaker = taken.more; same = λ a k content h. same2 a k h }
 
-  low-record : (v n : ℕ) → IsRecord with_both m2 v n → v < top → v + n ≤ top
+  -- Records are as before.
+
+  old-role : (a k : ℕ) → OfRecord k → with_holder a k ≡ true → c a k ≡ true
+  old-role a k of h = elim (tells a k h) [
+    | inl old ↦ old.0
+    | inr inner ↦ absurd (elim (holder-object (a - top)) [
+      | inl next ↦ elim of [ inl e ↦ omega (arith, next, inner.1.1, e) | inr (inl e) ↦ omega (arith, next, inner.1.1, e) | inr (inr e) ↦ omega (arith, next, inner.1.1, e) ]
+      | inr range ↦ elim of [ inl e ↦ omega (arith, range, inner.1.1, e) | inr (inl e) ↦ omega (arith, range, inner.1.1, e) | inr (inr e) ↦ omega (arith, range, inner.1.1, e) ]
+    ])
+  ]
+
+  records2 : (v m : ℕ) → IsRecord with_holder m2 v m → OldOrNew c m1 m2 v m
+  records2 v m s =
+      let same : (q : ℕ) → v ≤ q → q < v + m → get_or m1 q 0 ≡ get_or m2 q 0 = λ q from below.
+      let role = record-role with_holder m2 v m q s from below in sym (same2 q role.0 (old-role q role.0 role.1.0 role.1.1)) in
+      inl (
+        record-back c with_holder m1 m2 v m (λ q k from below of h. old-role q k of h) same (omega (arith, record-inside with_holder m2 v m s, len2)) s,
+        sym (same (v + 2) (omega arith) (record-four with_holder m2 v m s)),
+      )
+
+  links-one : (os further : List ℕ) → IsSingle c → Links c m1 head os further → Links with_holder m3 top (top ∷ os) further
+  links-one os further single l =
+      let at : boxed_word top / 4 ≡ top = omega arith in
+      let P : ℕ → Type 0 = λ z. IsLink with_holder m2 z in
+      let link : IsLink with_holder m2 top = subst P at (holder-link with_holder shared m2 (boxed_word top) (serial + 1) stands2 (omega (arith, at, somewhere))) in
+      links3 with_holder os further (with-object-single of_holder c top 6 single) (links-grow c with_holder m1 m2 kept2 (λ a h. same2 a NEXT h) records2 head os further l) link
+      (λ inside. elim (free top FIRST (l.each top inside).first) [ inl low ↦ omega (arith, low) | inr high ↦ omega (arith, high) ])
+
+  -- One holder is laid.
+  held-one : LaidOver c with_holder shared top (top + 6) m1 m3 (rec ∷ []) head top serial 1
+  held-one =
+      let Q : ℕ → Type 0 = λ p. (os further : List ℕ) → IsSingle c → Links c m1 head os further → Links with_holder m3 top (p ∷ os) further in
+      let name_off : top + 3 ≡ rec + 2 → ⊥ = λ e. elim rec-off [ inl low ↦ omega (arith, e, low) | inr high ↦ omega (arith, e, high) ] in
+      let name : get_or m3 (top + 3) 0 ≡ rec = other3 (top + 3) (λ z. omega (arith, z)) name_off ∙ lie2.each 3 (top + 3) (omega arith) (omega arith) in
+      let here : IsNewBin with_holder shared m3 top (serial + 1) = record { holder = stands3; counted = ap (λ z. count_in m3 z) name ∙ count3 } in
+      record {
+        more = taken.more;
+        within = λ q k h. elim (tells q k h) [ inl old ↦ inl old.0 | inr inner ↦ inr (inner.0, (inner.1.0, subst OfObject inner.1.1 (holder-object (q - top)))) ];
+        single = with-object-single of_holder c top 6;
+        kept = record {
+          longer = omega (arith, len3);
+          weaker = taken.more;
+          same = λ q k content h. held-others q (free q k h) (λ e. let R : ℕ → Type 0 = λ z. c z k ≡ true in idle k content (subst R e h));
+        };
+        bins = λ i below.
+            let P : ℕ → Type 0 = λ p. IsNewBin with_holder shared m3 p (serial + 1) in
+            let R : ℕ → Type 0 = λ id. IsNewBin with_holder shared m3 (top + 6 * i) id in
+            let place : top ≡ top + 6 * i = omega (arith, below) in
+            let id : serial + 1 ≡ serial + suc i = omega (arith, below) in
+            subst R id (subst P place here);
+        names = λ i below.
+            let zero_i : 0 ≡ i = omega (arith, below) in
+            let P : ℕ → Type 0 = λ j. get_or m3 (top + 6 * j + 3) 0 ≡ get_or (rec ∷ []) j 0 in
+            let place : top + 6 * 0 + 3 ≡ top + 3 = omega arith in
+            subst P zero_i (ap (λ z. get_or m3 z 0) place ∙ name);
+        nexts = λ q h. elim (tells q NEXT h) [ inl old ↦ inl old.0 | inr inner ↦ inr (0, (omega arith, omega (arith, inner.0, holder-next (q - top) inner.1.1))) ];
+        links = let place : top ≡ top + 6 * 0 = omega arith in subst Q place links-one;
+      }
+
+  pub held-bin : (to : ℕ) (was is : Making) → to ≡ top + 6 → was.head ≡ head → was.serial ≡ serial → is.head ≡ top → OverBins c shared top to m1 m3 (rec ∷ []) was is 1
+  held-bin to was is e old_head old_serial new_head =
+      let P : ℕ → Type 0 = λ h. LaidOver c with_holder shared top to m1 m3 (rec ∷ []) h is.head was.serial 1 in
+      let Q : ℕ → Type 0 = λ h. LaidOver c with_holder shared top to m1 m3 (rec ∷ []) head h was.serial 1 in
+      let R : ℕ → Type 0 = λ k. LaidOver c with_holder shared top to m1 m3 (rec ∷ []) head top k 1 in
+      let S : ℕ → Type 0 = λ t. LaidOver c with_holder shared top t m1 m3 (rec ∷ []) head top serial 1 in
+      record { test = with_holder; laid = subst P (sym old_head) (subst Q (sym new_head) (subst R (sym old_serial) (subst S (sym e) held-one))) }
+
+-- A record is written between two places: roles grow.
+module _ (c : ℕ → ℕ → Bool) (shared : List (List ℕ)) (top size rec limit serial : ℕ) (bytes : List ℕ) (m0 m1 : List ℕ)
+    (free : IsFree c top limit) (fits : top < rec) (ends : rec + size ≡ limit) (four : 4 ≤ size)
+    (w1 : WritesRecord rec limit m0 m1) (made1 : (c d : ℕ → ℕ → Bool) → Taken record_roles c d rec size → IsBinRecord d m1 rec (serial + 1) bytes) (zero_count : count_in m1 rec ≡ 0)
+    (is : shared_bytes shared (serial + 1) ≡ bytes) where
+  abbrev with_record : ℕ → ℕ → Bool
+  with_record = with_object record_roles c rec size
+
+  taken-there : Taken record_roles c with_record rec size
+  taken-there = with-object-taken record_roles c rec size (λ a k h. elim (free a k h) [ inl low ↦ inl (omega (arith, low, fits)) | inr high ↦ inr (omega (arith, high, ends)) ])
+
+  where-roles : (a k : ℕ) → with_record a k ≡ true → ((c a k ≡ true) × ((a < top) ⊎ (limit ≤ a))) ⊎ ((rec ≤ a) × ((a < limit) × (record_roles (a - rec) ≡ k)))
+  where-roles a k h = elim (object-tells record_roles c rec size a k h) [ inr inner ↦ inr (inner.0, (omega (arith, inner.1.0, ends), inner.1.1)) | inl (off, old) ↦ inl (old, free a k old) ]
+
+  same-off : (q : ℕ) → (q < top) ⊎ (limit ≤ q) → get_or m1 q 0 ≡ get_or m0 q 0
+  same-off q apart = w1.others q (elim apart [ inl low ↦ inl (omega (arith, low, fits)) | inr high ↦ inr high ])
+
+  kept-there : Kept c with_record m0 m1
+  kept-there = record { longer = omega (arith, w1.same_len); weaker = taken-there.more; same = λ a k content h. same-off a (free a k h) }
+
+  low-record : (v n : ℕ) → IsRecord with_record m1 v n → v < top → v + n ≤ top
   low-record v n s low =
       let which : (v + n ≤ top) ⊎ (top < v + n) = grind arith in
       elim which [
         | inl fine ↦ fine
         | inr past ↦
-            let role = record-role with_both m2 v n top s (omega (arith, low)) past in
-            absurd (elim (tells top role.0 role.1.1) [
-              | inl (old, inl under) ↦ omega (arith, under)
-              | inl (old, inr high) ↦ omega (arith, high, fits, ends)
-              | inr (inl inner) ↦ first-alone (top - top) role.0 (omega arith) inner.1.1 role.1.0
-              | inr (inr inner) ↦ omega (arith, inner.0, fits)
-            ])
+            let role = record-role with_record m1 v n top s (omega (arith, low)) past in
+            absurd (elim (where-roles top role.0 role.1.1) [ inl (old, inl under) ↦ omega (arith, under) | inl (old, inr high) ↦ omega (arith, high, fits, ends) | inr inner ↦ omega (arith, inner.0, fits) ])
       ]
-    where
-      first-alone : (j k : ℕ) → j ≡ 0 → of_holder j ≡ k → OfRecord k → ⊥
-      first-alone j k none e of = let P : ℕ → Type 0 = λ z. of_holder z ≡ k in let at : of_holder 0 ≡ k = subst P none e in omega (arith, at, of)
 
-  old-record : (v n : ℕ) → IsRecord with_both m2 v n → ((v < top) × (v + n ≤ top)) ⊎ (limit ≤ v) → IsRecord c m0 v n × (count_in m2 v ≡ count_in m0 v)
+  old-record : (v n : ℕ) → IsRecord with_record m1 v n → ((v < top) × (v + n ≤ top)) ⊎ (limit ≤ v) → IsRecord c m0 v n × (count_in m1 v ≡ count_in m0 v)
   old-record v n s apart =
       let off : (q : ℕ) → v ≤ q → q < v + n → (q < top) ⊎ (limit ≤ q) = λ q from below. elim apart [ inl low ↦ inl (omega (arith, below, low.1)) | inr high ↦ inr (omega (arith, from, high)) ] in
-      let old_role : (q k : ℕ) → v ≤ q → q < v + n → OfRecord k → with_both q k ≡ true → c q k ≡ true = λ q k from below of h. elim (tells q k h) [
+      let old_role : (q k : ℕ) → v ≤ q → q < v + n → OfRecord k → with_record q k ≡ true → c q k ≡ true = λ q k from below of h. elim (where-roles q k h) [
         | inl old ↦ old.0
-        | inr (inl inner) ↦ absurd (elim (off q from below) [ inl low ↦ omega (arith, low, inner.0) | inr high ↦ omega (arith, high, inner.1.0, fits, ends) ])
-        | inr (inr inner) ↦ absurd (elim (off q from below) [ inl low ↦ omega (arith, low, inner.0, fits) | inr high ↦ omega (arith, high, inner.1.0) ])
-      ] in
-      let size_inside : v + n ≤ length m2 = record-inside with_both m2 v n s in (
-        record-back c with_both m0 m2 v n old_role (λ q from below. sym (same2 q (off q from below))) (omega (arith, size_inside, len2, w1.same_len)) s,
-        same2 (v + 2) (off (v + 2) (omega arith) (record-four with_both m2 v n s)),
+        | inr inner ↦ absurd (elim (off q from below) [ inl low ↦ omega (arith, low, inner.0, fits) | inr high ↦ omega (arith, high, inner.1.0) ])
+      ] in (
+        record-back c with_record m0 m1 v n old_role (λ q from below. sym (same-off q (off q from below))) (omega (arith, record-inside with_record m1 v n s, w1.same_len)) s,
+        same-off (v + 2) (off (v + 2) (omega arith) (record-four with_record m1 v n s)),
       )
 
-  records2 : (v n : ℕ) → IsRecord with_both m2 v n → OldOrNew c m0 m2 v n
-  records2 v n s = elim (tells v RECORD_FIRST (record-first with_both m2 v n s)) [
+  records-there : (v n : ℕ) → IsRecord with_record m1 v n → OldOrNew c m0 m1 v n
+  records-there v n s = elim (where-roles v RECORD_FIRST (record-first with_record m1 v n s)) [
     | inl (old, inl low) ↦ inl (old-record v n s (inl (low, low-record v n s low)))
     | inl (old, inr high) ↦ inl (old-record v n s (inr high))
-    | inr (inl inner) ↦ absurd (elim (holder-object (v - top)) [ inl next ↦ omega (arith, next, inner.1.1) | inr of ↦ omega (arith, of, inner.1.1) ])
-    | inr (inr inner) ↦
+    | inr inner ↦
         let at : v ≡ rec = omega (arith, first-of-record (v - rec) inner.1.1, inner.0) in
-        let P : ℕ → Type 0 = λ z. (count_in m2 z ≡ 0) × (c z RECORD_FIRST ≡ true → ⊥) in
-        inr (subst P (sym at) (count2, λ h. elim (free rec RECORD_FIRST h) [ inl low ↦ omega (arith, low, fits) | inr high ↦ omega (arith, high, ends, four) ]))
+        let P : ℕ → Type 0 = λ z. (count_in m1 z ≡ 0) × (c z RECORD_FIRST ≡ true → ⊥) in
+        inr (subst P (sym at) (zero_count, λ h. elim (free rec RECORD_FIRST h) [ inl low ↦ omega (arith, low, fits) | inr high ↦ omega (arith, high, ends, four) ]))
   ]
 
-  single-both : IsSingle c → IsSingle with_both
-  single-both single = with-object-single of_holder with_record top 6 (with-object-single record_roles c rec size single)
+  -- One record is laid.
+  pub recorded-one : (x y : Room) (row : List ℕ) → x.top ≡ top → x.end ≡ limit → y.end ≡ rec → rec ≡ get_or row 0 0 → RecordedBins c shared x y m0 m1 row serial 1
+  recorded-one x y row a b f at = record {
+    test = with_record;
+    laid = record {
+      more = taken-there.more;
+      within = λ q k h. elim (where-roles q k h) [
+        | inl old ↦ inl old.0
+        | inr inner ↦ inr (omega (arith, inner.0, f), (omega (arith, inner.1.0, b), subst OfRecord inner.1.1 (roles-of-record (q - rec))))
+      ];
+      single = with-object-single record_roles c rec size;
+      kept = kept-there;
+      each = λ i below.
+          let P : ℕ → Type 0 = λ v. Waits with_record shared m1 v (serial + 1) in
+          let Q : ℕ → Type 0 = λ id. Waits with_record shared m1 (get_or row i 0) id in
+          let place : rec ≡ get_or row i 0 = at ∙ (let zero_i : 0 ≡ i = omega (arith, below) in ap (λ j. get_or row j 0) zero_i) in
+          let id : serial + 1 ≡ serial + suc i = omega (arith, below) in
+          subst Q id (subst P place here);
+      fresh = λ i below.
+          let place : rec ≡ get_or row i 0 = at ∙ (let zero_i : 0 ≡ i = omega (arith, below) in ap (λ j. get_or row j 0) zero_i) in
+          (omega (arith, place, f), omega (arith, place, ends, four, b));
+      records = λ v h. elim (where-roles v RECORD_FIRST h) [
+        | inl old ↦ inl old.0
+        | inr inner ↦ (let is_rec : v ≡ rec = omega (arith, first-of-record (v - rec) inner.1.1, inner.0) in inr (0, (omega arith, is_rec ∙ at)))
+      ];
+      links = λ head os further l. links-grow c with_record m0 m1 kept-there (λ a h. same-off a (free a NEXT h)) records-there head os further l;
+    };
+  }
+    where
+      count-alone : (j k : ℕ) → j ≡ 2 → record_roles j ≡ k → IsContent k → ⊥
+      count-alone j k two e content = let P : ℕ → Type 0 = λ z. record_roles z ≡ k in let here : record_roles 2 ≡ k = subst P two e in omega (arith, here, content)
 
-  links-one : (os further : List ℕ) → IsSingle c → Links c m0 head os further → Links with_both m3 top (top ∷ os) further
-  links-one os further single l =
-      let at : boxed_word top / 4 ≡ top = omega arith in
-      let P : ℕ → Type 0 = λ z. IsLink with_both m2 z in
-      let link : IsLink with_both m2 top = subst P at (holder-link with_both shared m2 (boxed_word top) (serial + 1) stands2 (omega (arith, at, somewhere))) in
-      links3 with_both os further (single-both single)
-      (links-grow c with_both m0 m2 kept2 (λ a h. same2 a (free a NEXT h)) records2 head os further l) link
-      (λ there. elim (free top FIRST (l.each top there).first) [ inl low ↦ omega (arith, low) | inr high ↦ omega (arith, high, fits, ends) ])
-
-  -- One binary is laid.
-  pub laid-one : (x y : Room) → x.top ≡ top → x.end ≡ limit → y.top ≡ top + 6 → y.end ≡ rec → Laid c with_both shared x y m0 m3 head top serial 1
-  laid-one x y a b e f =
-      let Q : ℕ → Type 0 = λ p. (os further : List ℕ) → IsSingle c → Links c m0 head os further → Links with_both m3 top (p ∷ os) further in
-      let name : get_or m3 (top + 3) 0 ≡ rec = other3 (top + 3) (λ z. omega (arith, z)) (λ z. omega (arith, z, fits)) ∙ lie2.each 3 (top + 3) (omega arith) (omega arith) in
-      let here : IsNewBin with_both shared m3 top (serial + 1) = record { holder = stands3; counted = ap (λ z. count_in m3 z) name ∙ count3 } in
-      record {
-        more = more;
-        within = λ q k h. elim (tells q k h) [
-          | inl old ↦ inl old.0
-          | inr (inl inner) ↦ inr (inl (omega (arith, inner.0, a), (omega (arith, inner.1.0, e), subst OfObject inner.1.1 (holder-object (q - top)))))
-          | inr (inr inner) ↦ inr (inr (omega (arith, inner.0, f), (omega (arith, inner.1.0, b), subst OfRecord inner.1.1 (roles-of-record (q - rec)))))
-        ];
-        single = single-both;
-        kept = record { longer = omega (arith, len3); weaker = more; same = λ q k content h. same3 q (free q k h) };
-        bins = λ i below.
-            let P : ℕ → Type 0 = λ p. IsNewBin with_both shared m3 p (serial + 1) in
-            let R : ℕ → Type 0 = λ id. IsNewBin with_both shared m3 (x.top + 6 * i) id in
-            let place : top ≡ x.top + 6 * i = omega (arith, a, below) in
-            let id : serial + 1 ≡ serial + suc i = omega (arith, below) in
-            subst R id (subst P place here);
-        nexts = λ q h. elim (tells q NEXT h) [
-          | inl old ↦ inl old.0
-          | inr (inl inner) ↦ inr (0, (omega arith, omega (arith, a, inner.0, holder-next (q - top) inner.1.1)))
-          | inr (inr inner) ↦ absurd (elim (roles-of-record (q - rec)) [
-            | inl count ↦ omega (arith, count, inner.1.1)
-            | inr (inl other) ↦ omega (arith, other, inner.1.1)
-            | inr (inr first) ↦
-                omega (arith, first, inner.1.1)
-          ])
-        ];
-        records = λ v h. elim (tells v RECORD_FIRST h) [
-          | inl old ↦ inl old.0
-          | inr (inl inner) ↦ absurd (elim (holder-object (v - top)) [ inl next ↦ omega (arith, next, inner.1.1) | inr of ↦ omega (arith, of, inner.1.1) ])
-          | inr (inr inner) ↦
-              let at : v ≡ rec = omega (arith, first-of-record (v - rec) inner.1.1, inner.0) in
-              let place : top + 3 ≡ x.top + 6 * 0 + 3 = omega (arith, a) in
-              inr (0, (omega arith, at ∙ sym name ∙ ap (λ z. get_or m3 z 0) place))
-        ];
-        links = let place : top ≡ x.top + 6 * 0 = omega (arith, a) in subst Q place links-one;
-      }
-
-  pub laid-bin : (x y : Room) (was is : Making) → x.top ≡ top → x.end ≡ limit → y.top ≡ top + 6 → y.end ≡ rec → was.head ≡ head → was.serial ≡ serial → is.head ≡ top
-      → LaidBins c shared x y m0 m3 was is 1
-  laid-bin x y was is a b e f old_head old_serial new_head =
-      let P : ℕ → Type 0 = λ h. Laid c with_both shared x y m0 m3 h is.head was.serial 1 in
-      let Q : ℕ → Type 0 = λ h. Laid c with_both shared x y m0 m3 head h was.serial 1 in
-      let R : ℕ → Type 0 = λ n. Laid c with_both shared x y m0 m3 head top n 1 in
-      record { test = with_both; laid = subst P (sym old_head) (subst Q (sym new_head) (subst R (sym old_serial) (laid-one x y a b e f))) }
+      here : Waits with_record shared m1 rec (serial + 1)
+      here =
+          let P : List ℕ → Type 0 = λ z. IsBinRecord with_record m1 rec (serial + 1) z in
+          record {
+            standing = subst P (sym is) (made1 c with_record taken-there);
+            count = zero_count;
+            idle = λ k content h. elim (where-roles (rec + 2) k h) [
+              | inl (old, inl low) ↦ omega (arith, low, fits)
+              | inl (old, inr high) ↦ omega (arith, high, ends, four)
+              | inr inner ↦ count-alone (rec + 2 - rec) k (omega arith) inner.1.1 content
+            ];
+          }

@@ -1,11 +1,11 @@
--- A term built after its long binaries: what all of it leaves.
+-- A term built after the holders of its long binaries: what all of it leaves.
 use Rattle.std.proofs.Common.{◌≡◌, ℕ, suc, ◌+◌, ◌-◌, ◌*◌, ◌<◌, ◌≤◌, if◌then◌else◌, Bool, true, false, List, [], ◌∷◌, ◌++◌, length, get_or, slice_index_or, Option, Some, None, Ok, Err, refl, sym, ◌∙◌, subst, arith, inl, inr, length-append}
 use Rattle.word_mem.specs.declared.ranges.Room.{Room}
 use Rattle.plain_term.specs.declared.item.Item.{Item}
 use Rattle.plain_term.specs.Tree.{Tree}
 use Rattle.plain_term.specs.Tree.Tree.{Nil, Shared}
 use Rattle.term_tags.specs.Words.{boxed_word}
-use Rattle.term_words.specs.Role.{NEXT, RECORD_FIRST, OfObject, OfRecord}
+use Rattle.term_words.specs.Role.{NEXT, COUNT, OfObject, OfRecord}
 use Rattle.term_words.specs.Object.{IsRecord}
 use Rattle.term_words.specs.Stands.{Stands}
 use Rattle.term_words.specs.Kept.{Kept}
@@ -18,13 +18,13 @@ use Rattle.term_build.specs.Clear.{IsRoom}
 use Rattle.item_build.specs.declared.bins.Making.{Making}
 use Rattle.item_build.specs.declared.building.BuildStop.TheVariants.{Big, Size}
 use Rattle.item_build.specs.Reading.{AreLed, AreWhole, bins_of, long_bins, unless_wide}
-use Rattle.item_build.specs.Building.{AreMarks, BinsStand, BuildsTerm, HeldStand, IsNewBin, Laid, LaidBins, LeavesRoom, MarksBuilt, Spares, UsesSome, holders_from}
+use Rattle.item_build.specs.Building.{AreMarks, BinsStand, BuildsOver, HeldStand, IsNewBin, LaidOver, LeavesBut, LeavesRoom, MarksBuilt, OverBins, Spares, UsesSome, holders_from}
 use Rattle.item_build.proofs.Turned.Marks.{none-stands}
 use Rattle.term_words.proofs.Framing.Growing.{grow}
 use Rattle.item_build.proofs.Meaning.Growing.{longs-are}
 use Rattle.item_build.proofs.Meaning.Whole.{led-within}
 use Rattle.item_build.proofs.Laid.Laying.{OldOrNew, links-grow, record-back, record-four}
-use Rattle.item_build.proofs.Laid.Chaining.{free-laid, new-bin-kept}
+use Rattle.item_build.proofs.Laid.Holding.{bin-over, free-over, new-record}
 
 -- Bytes stand behind each binary.
 pub whole-led : (names held : ℕ) (xs : List Item) → AreWhole names held xs → AreLed xs
@@ -55,10 +55,10 @@ leaves-uses own y z m1 m2 u fits = record {
 }
 
 -- Objects are built behind the holders.
-module _ (c d e : ℕ → ℕ → Bool) (shared : List (List ℕ)) (x y z : Room) (m0 m1 m2 : List ℕ) (h0 h1 serial n own : ℕ) (l : Laid c d shared x y m0 m1 h0 h1 serial n) (w : LeavesRoom x y m0 m1)
-    (free : IsFree c x.top x.end) (g : Grows d e y.top (z.top - y.top) m1 m2) (u : UsesSome own y z m1 m2) (fits : y.top + own ≤ y.end) where
+module _ (c d e : ℕ → ℕ → Bool) (shared : List (List ℕ)) (x y z : Room) (m0 m1 m2 row : List ℕ) (h0 h1 serial n own : ℕ) (l : LaidOver c d shared x.top y.top m0 m1 row h0 h1 serial n)
+    (w : LeavesBut row n x y m0 m1) (free : IsFree c x.top x.end) (g : Grows d e y.top (z.top - y.top) m1 m2) (u : UsesSome own y z m1 m2) (fits : y.top + own ≤ y.end) where
   inner : IsFree d y.top y.end
-  inner = free-laid c d shared x y m0 m1 h0 h1 serial n l w free
+  inner = let P : ℕ → Type 0 = λ k. IsFree d y.top k in subst P (sym w.same_end) (free-over c d shared x.top y.top x.end m0 m1 row h0 h1 serial n l w.front free)
 
   leaves-objects : LeavesRoom y z m1 m2
   leaves-objects = leaves-uses own y z m1 m2 u fits
@@ -81,26 +81,20 @@ module _ (c d e : ℕ → ℕ → Bool) (shared : List (List ℕ)) (x y z : Room
         sym (there (v + 2) (omega arith) (record-four e m2 v m s)),
       )
 
-  old-bin : (i : ℕ) → i < n → (get_or m2 (x.top + 6 * i + 3) 0 ≡ get_or m1 (x.top + 6 * i + 3) 0) × IsNewBin e shared m2 (x.top + 6 * i) (serial + suc i)
-  old-bin i below = new-bin-kept d e shared y z m1 m2 (x.top + 6 * i) (serial + suc i) kept leaves-objects inner (l.bins i below)
+  old-bin : (i : ℕ) → i < n → (get_or m2 (x.top + 6 * i + 3) 0 ≡ get_or row i 0) × IsNewBin e shared m2 (x.top + 6 * i) (serial + suc i)
+  old-bin i below =
+      let counted : d (get_or row i 0 + 2) COUNT ≡ true = (new-record d shared m1 (x.top + 6 * i) (get_or row i 0) (serial + suc i) (l.bins i below) (l.names i below)).1 in
+      bin-over d e shared m1 m2 (x.top + 6 * i) (get_or row i 0) (serial + suc i) kept (l.names i below) (same (get_or row i 0 + 2) COUNT counted) (l.bins i below)
 
   -- The whole is laid.
-  pub laid-grows : Laid c e shared x z m0 m2 h0 h1 serial n
-  laid-grows = record {
+  pub over-grows : LaidOver c e shared x.top z.top m0 m2 row h0 h1 serial n
+  over-grows = record {
     more = λ a k h. g.more a k (l.more a k h);
     within = λ a k h. elim (g.within a k h) [
-      | inl mid ↦ elim (l.within a k mid) [
-        | inl old ↦ inl old
-        | inr (inl inside) ↦ inr (inl (inside.0, (omega (arith, inside.1.0, u.uses.moved), inside.1.1)))
-        | inr (inr inside) ↦ inr (inr (omega (arith, inside.0, u.uses.same_end), inside.1))
-      ]
+      | inl mid ↦ elim (l.within a k mid) [ inl old ↦ inl old | inr inside ↦ inr (inside.0, (omega (arith, inside.1.0, u.uses.moved), inside.1.1)) ]
       | inr range ↦ elim (g.objects a k h) [
-        | inl mid ↦ elim (l.within a k mid) [
-          | inl old ↦ inl old
-          | inr (inl inside) ↦ inr (inl (inside.0, (omega (arith, inside.1.0, u.uses.moved), inside.1.1)))
-          | inr (inr inside) ↦ inr (inr (omega (arith, inside.0, u.uses.same_end), inside.1))
-        ]
-        | inr plain ↦ inr (inl (omega (arith, range.0, w.front), (omega (arith, range.1, u.uses.moved), plain-object k plain)))
+        | inl mid ↦ elim (l.within a k mid) [ inl old ↦ inl old | inr inside ↦ inr (inside.0, (omega (arith, inside.1.0, u.uses.moved), inside.1.1)) ]
+        | inr plain ↦ inr (omega (arith, range.0, w.front), (omega (arith, range.1, u.uses.moved), plain-object k plain))
       ]
     ];
     single = λ s. g.single (l.single s);
@@ -110,15 +104,15 @@ module _ (c d e : ℕ → ℕ → Bool) (shared : List (List ℕ)) (x y z : Room
       same = λ a k content h. same a k (l.more a k h) ∙ l.kept.same a k content h;
     };
     bins = λ i below. (old-bin i below).1;
+    names = λ i below. (old-bin i below).0;
     nexts = λ a h. elim (g.objects a NEXT h) [ inl mid ↦ l.nexts a mid | inr (inl first) ↦ absurd (omega (arith, first)) | inr (inr further) ↦ absurd (omega (arith, further)) ];
-    records = λ v h. elim (l.records v (old-role v RECORD_FIRST (inr (inr refl)) h)) [ inl old ↦ inl old | inr (i, some) ↦ inr (i, (some.0, some.1 ∙ sym (old-bin i some.0).0)) ];
     links = λ os further s k. links-grow d e m1 m2 kept (λ a h. same a NEXT h) records-old h1 (holders_from x.top n ++ os) further (l.links os further s k);
   }
 
 -- Held words stand after the binaries were laid, and the holders of these.
 
-module _ (c d : ℕ → ℕ → Bool) (shared : List (List ℕ)) (code : List Item) (x y : Room) (m0 m1 : List ℕ) (h0 h1 serial : ℕ)
-    (l : Laid c d (shared ++ bins_of code) x y m0 m1 h0 h1 serial (long_bins code)) (front : y.top ≡ x.top + 6 * long_bins code) (len : length shared ≡ serial) where
+module _ (c d : ℕ → ℕ → Bool) (shared : List (List ℕ)) (code : List Item) (x y : Room) (m0 m1 row : List ℕ) (h0 h1 serial : ℕ)
+    (l : LaidOver c d (shared ++ bins_of code) x.top y.top m0 m1 row h0 h1 serial (long_bins code)) (front : y.top ≡ x.top + 6 * long_bins code) (len : length shared ≡ serial) where
   pub held-laid : (held : List ℕ) (trees : List Tree) → HeldStand c shared m0 held trees → HeldStand d (shared ++ bins_of code) m1 held trees
   held-laid held trees h = record {
     each = λ r below.
@@ -138,62 +132,82 @@ module _ (c d : ℕ → ℕ → Bool) (shared : List (List ℕ)) (code : List It
         subst Q id (subst P place (l.bins (long_bins code - suc j) (omega (arith, below))).holder);
   }
 
--- All is ready for the items, by a test that has the long binaries.
-pub record IsReady (c : ℕ → ℕ → Bool) (shared : List (List ℕ)) (n own : ℕ) (x y : Room) (m0 m1 held : List ℕ) (trees : List Tree) (was is : Making) : Type 0 where
+-- All is ready for the items, by a test that has the holders.
+pub record IsReady (c : ℕ → ℕ → Bool) (shared : List (List ℕ)) (n many own : ℕ) (x y : Room) (m0 m1 row held : List ℕ) (trees : List Tree) (was is : Making) : Type 0 where
   pub test : ℕ → ℕ → Bool
-  pub laid : Laid c test shared x y m0 m1 was.head is.head was.serial n
+  pub laid : LaidOver c test shared x.top y.top m0 m1 row was.head is.head was.serial n
   pub free : IsFree test y.top (y.top + own)
   pub standing : HeldStand test shared m1 held trees
-  pub holders : BinsStand test shared m1 y.top n
+  pub holders : BinsStand test shared m1 y.top many
 
-pub ready : (c : ℕ → ℕ → Bool) (shared : List (List ℕ)) (code : List Item) (x y : Room) (m0 m1 held : List ℕ) (trees : List Tree) (was is : Making) (own : ℕ)
-    → LaidBins c (shared ++ bins_of code) x y m0 m1 was is (long_bins code) → LeavesRoom x y m0 m1 → IsFree c x.top x.end → y.top ≡ x.top + 6 * long_bins code → length shared ≡ was.serial
-    → y.top + own ≤ y.end → HeldStand c shared m0 held trees → IsReady c (shared ++ bins_of code) (long_bins code) own x y m0 m1 held trees was is
-ready c shared code x y m0 m1 held trees was is own a w free front len fits h =
-    let inside : IsFree a.test y.top y.end = free-laid c a.test (shared ++ bins_of code) x y m0 m1 was.head is.head was.serial (long_bins code) a.laid w free in record {
+pub ready : (c : ℕ → ℕ → Bool) (shared : List (List ℕ)) (code : List Item) (x y : Room) (m0 m1 row held : List ℕ) (trees : List Tree) (was is : Making) (n own : ℕ) → n ≡ long_bins code
+    → OverBins c (shared ++ bins_of code) x.top y.top m0 m1 row was is n → LeavesBut row n x y m0 m1 → IsFree c x.top x.end → y.top ≡ x.top + 6 * n → length shared ≡ was.serial
+    → y.top + own ≤ y.end → HeldStand c shared m0 held trees → IsReady c (shared ++ bins_of code) n (long_bins code) own x y m0 m1 row held trees was is
+ready c shared code x y m0 m1 row held trees was is n own many a w free front len fits h =
+    let inside : IsFree a.test y.top x.end = free-over c a.test (shared ++ bins_of code) x.top y.top x.end m0 m1 row was.head is.head was.serial n a.laid w.front free in
+    let L : ℕ → Type 0 = λ k. LaidOver c a.test (shared ++ bins_of code) x.top y.top m0 m1 row was.head is.head was.serial k in
+    let all : LaidOver c a.test (shared ++ bins_of code) x.top y.top m0 m1 row was.head is.head was.serial (long_bins code) = subst L many a.laid in
+    let top : y.top ≡ x.top + 6 * long_bins code = omega (arith, front, many) in
+    record {
       test = a.test;
       laid = a.laid;
-      free = λ q k e. elim (inside q k e) [ inl low ↦ inl low | inr high ↦ inr (omega (arith, high, fits)) ];
-      standing = held-laid c a.test shared code x y m0 m1 was.head is.head was.serial a.laid front len held trees h;
-      holders = bins-laid c a.test shared code x y m0 m1 was.head is.head was.serial a.laid front len;
+      free = λ q k e. elim (inside q k e) [ inl low ↦ inl low | inr high ↦ inr (omega (arith, high, fits, w.same_end)) ];
+      standing = held-laid c a.test shared code x y m0 m1 row was.head is.head was.serial all top len held trees h;
+      holders = bins-laid c a.test shared code x y m0 m1 row was.head is.head was.serial all top len;
     }
 
 -- What the one word tells.
 
-module _ (c d : ℕ → ℕ → Bool) (shared : List (List ℕ)) (x y z : Room) (m0 m1 m2 : List ℕ) (was is : Making) (n own w : ℕ) (l : Laid c d shared x y m0 m1 was.head is.head was.serial n)
-    (lv : LeavesRoom x y m0 m1) (free : IsFree c x.top x.end) (fits : y.top + own ≤ y.end) where
+module _ (c d : ℕ → ℕ → Bool) (shared : List (List ℕ)) (x y z : Room) (m0 m1 m2 row : List ℕ) (was is : Making) (n own w : ℕ)
+    (l : LaidOver c d shared x.top y.top m0 m1 row was.head is.head was.serial n) (lv : LeavesBut row n x y m0 m1) (free : IsFree c x.top x.end) (fits : y.top + own ≤ y.end) where
   pub ok-makes : (big : Bool) (ms : List (Option Tree)) → big ≡ false → (w ≡ 0 → ⊥) → UsesSome own y z m1 m2
-      → MarksBuilt d y.top (z.top - y.top) m1 m2 shared (w ∷ []) ms → BuildsTerm c shared x z m0 m2 was is n (Ok w) (if big then Err Big else unless_wide ms)
+      → MarksBuilt d y.top (z.top - y.top) m1 m2 shared (w ∷ []) ms → BuildsOver c shared x z m0 m2 row was is n (Ok w) (if big then Err Big else unless_wide ms)
   unfolding AreMarks
   ok-makes true ms small there u b = absurd cc
   ok-makes false [] small there u b = absurd b.made
   ok-makes false (None ∷ ms) small there u b = absurd (there b.made.0)
   ok-makes false (Some t ∷ ms) small there u b =
-      record { test = b.test; laid = laid-grows c d b.test shared x y z m0 m1 m2 was.head is.head was.serial n own l lv free b.grows u fits; made = b.made.0 }
+      record { test = b.test; laid = over-grows c d b.test shared x y z m0 m1 m2 row was.head is.head was.serial n own l lv free b.grows u fits; made = b.made.0 }
 
-pub wide-makes : (c d : ℕ → ℕ → Bool) (shared : List (List ℕ)) (x y z v : Room) (m0 m1 m2 : List ℕ) (was is : Making) (n w : ℕ) (big : Bool) (ms : List (Option Tree)) → big ≡ false → w ≡ 0
-    → MarksBuilt d y.top (z.top - y.top) m1 m2 shared (w ∷ []) ms → BuildsTerm c shared x v m0 m2 was is n (Err Size) (if big then Err Big else unless_wide ms)
+pub wide-makes : (c d : ℕ → ℕ → Bool) (shared : List (List ℕ)) (x y z v : Room) (m0 m1 m2 row : List ℕ) (was is : Making) (n w : ℕ) (big : Bool) (ms : List (Option Tree)) → big ≡ false → w ≡ 0
+    → MarksBuilt d y.top (z.top - y.top) m1 m2 shared (w ∷ []) ms → BuildsOver c shared x v m0 m2 row was is n (Err Size) (if big then Err Big else unless_wide ms)
 unfolding AreMarks
-wide-makes c d shared x y z v m0 m1 m2 was is n w true ms small zero_word b = absurd cc
-wide-makes c d shared x y z v m0 m1 m2 was is n w false [] small zero_word b = refl
-wide-makes c d shared x y z v m0 m1 m2 was is n w false (None ∷ ms) small zero_word b = refl
-wide-makes c d shared x y z v m0 m1 m2 was is n w false (Some t ∷ ms) small zero_word b = absurd (none-stands b.test shared m2 w t zero_word b.made.0)
+wide-makes c d shared x y z v m0 m1 m2 row was is n w true ms small zero_word b = absurd cc
+wide-makes c d shared x y z v m0 m1 m2 row was is n w false [] small zero_word b = refl
+wide-makes c d shared x y z v m0 m1 m2 row was is n w false (None ∷ ms) small zero_word b = refl
+wide-makes c d shared x y z v m0 m1 m2 row was is n w false (Some t ∷ ms) small zero_word b = absurd (none-stands b.test shared m2 w t zero_word b.made.0)
 
-pub big-makes : (c : ℕ → ℕ → Bool) (shared : List (List ℕ)) (x v : Room) (m0 m2 : List ℕ) (was is : Making) (n : ℕ) (big : Bool) (ms : List (Option Tree)) → big ≡ true
-    → BuildsTerm c shared x v m0 m2 was is n (Err Big) (if big then Err Big else unless_wide ms)
-big-makes c shared x v m0 m2 was is n true ms b = refl
-big-makes c shared x v m0 m2 was is n false ms b = absurd cc
+pub big-makes : (c : ℕ → ℕ → Bool) (shared : List (List ℕ)) (x v : Room) (m0 m2 row : List ℕ) (was is : Making) (n : ℕ) (big : Bool) (ms : List (Option Tree)) → big ≡ true
+    → BuildsOver c shared x v m0 m2 row was is n (Err Big) (if big then Err Big else unless_wide ms)
+big-makes c shared x v m0 m2 row was is n true ms b = refl
+big-makes c shared x v m0 m2 row was is n false ms b = absurd cc
 
 -- At a stop the room is given back.
-pub leaves-back : (x y : Room) (m0 m1 m2 : List ℕ) (own : ℕ) → IsRoom x m0 → LeavesRoom x y m0 m1 → Spares own y m1 m2 → y.top + own ≤ y.end → LeavesRoom x x m0 m2
-leaves-back x y m0 m1 m2 own r w s fits = record {
+pub leaves-back : (x y : Room) (m0 m1 m2 row : List ℕ) (n own : ℕ) → IsRoom x m0 → LeavesBut row n x y m0 m1 → Spares own y m1 m2 → y.top + own ≤ y.end → LeavesBut row n x x m0 m2
+leaves-back x y m0 m1 m2 row n own r w s fits = record {
   same_start = refl;
   front = omega arith;
   order = r.top_next;
-  back = omega arith;
+  same_end = refl;
   same_len = s.same_len ∙ w.same_len;
-  others = λ q apart. elim apart [
-    | inl low ↦ s.others q (inl (omega (arith, low, w.front))) ∙ w.others q (inl low)
-    | inr high ↦ s.others q (inr (omega (arith, high, w.back, fits))) ∙ w.others q (inr high)
+  others = λ q apart counts. elim apart [
+    | inl low ↦ s.others q (inl (omega (arith, low, w.front))) ∙ w.others q (inl low) counts
+    | inr high ↦ s.others q (inr (omega (arith, high, w.same_end, fits))) ∙ w.others q (inr high) counts
   ];
 }
+
+-- Some words were taken behind the holders.
+pub leaves-more : (x y z : Room) (m0 m1 m2 row : List ℕ) (n own : ℕ) → LeavesBut row n x y m0 m1 → UsesSome own y z m1 m2 → y.top + own ≤ y.end → LeavesBut row n x z m0 m2
+leaves-more x y z m0 m1 m2 row n own w u fits =
+    let v = leaves-uses own y z m1 m2 u fits in
+    record {
+      same_start = v.same_start ∙ w.same_start;
+      front = omega (arith, w.front, v.front);
+      order = v.order;
+      same_end = u.uses.same_end ∙ w.same_end;
+      same_len = v.same_len ∙ w.same_len;
+      others = λ q apart counts. elim apart [
+        | inl low ↦ v.others q (inl (omega (arith, low, w.front))) ∙ w.others q (inl low) counts
+        | inr high ↦ v.others q (inr (omega (arith, high, w.same_end))) ∙ w.others q (inr high) counts
+      ];
+    }

@@ -1,5 +1,5 @@
 -- Items one after the other: roles grow, and the words of what was read stand.
-use Rattle.std.proofs.Common.{◌≡◌, ℕ, suc, ◌+◌, ◌-◌, ◌<◌, ◌≤◌, ◌*◌, if◌then◌else◌, Bool, true, false, List, [], ◌∷◌, length, get_or, take, drop, Option, Some, None, Ok, Err, sym, ◌∙◌, ap, subst, arith, inl, inr}
+use Rattle.std.proofs.Common.{◌≡◌, ℕ, suc, ◌+◌, ◌-◌, ◌<◌, ◌≤◌, ◌*◌, if◌then◌else◌, Bool, true, false, List, [], ◌∷◌, length, get_or, take, drop, Option, sym, ◌∙◌, ap, subst, arith, inl, inr}
 use Rattle.std.proofs.Math.Seq.{drop-cons, drop-length}
 use Rattle.std.proofs.lemmas.Bool.{or_from, or_left}
 use Rattle.std.proofs.lemmas.List.{length-drop, nil_from_length}
@@ -17,10 +17,9 @@ use Rattle.term_build.specs.Grows.{Grows}
 use Rattle.term_build.specs.Clear.{IsRoom}
 use Rattle.term_build.proofs.Growing.{free-after, grows-then}
 use Rattle.term_build.proofs.Rooms.{room-after, uses-then}
-use Rattle.item_build.specs.declared.building.BuildStop.TheVariants.{Big, Size}
-use Rattle.item_build.specs.Reading.{AreWhole, has_big_item, is_big_item, is_long, long_bins, own_words, own_words_of, parts_after, read, read_item, terms_in, unless_wide}
+use Rattle.item_build.specs.Reading.{AreWhole, has_big_item, is_big_item, is_long, long_bins, own_words, own_words_of, parts_after, read, read_item, terms_in}
 use Rattle.item_build.specs.Building.{AreMarks, BinsStand, CanPut, CanRead, HeldStand, HolderStands, MarksBuilt, Spares, UsesSome}
-use Rattle.item_build.proofs.Turned.Marks.{always-keeps, keep-marks, marks-length, marks-none, none-stands}
+use Rattle.item_build.proofs.Turned.Marks.{always-keeps, keep-marks, marks-length, marks-none}
 use Rattle.item_build.proofs.Meaning.Whole.{big-at, big-rest, longs-at, longs-rest, own-fit, read-at, read-count, read-named, terms-few, whole-at}
 use Rattle.item_build.proofs.Turned.Makes.{grows-nothing}
 

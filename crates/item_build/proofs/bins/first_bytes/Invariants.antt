@@ -1,4 +1,4 @@
-use Rattle.std.proofs.Common.{◌≡◌, ◌+◌, ◌≤◌, length, take}
+use Rattle.std.proofs.Common.{◌≡◌, length, take}
 use Rattle.item_build.specs.Reading.{bytes_in}
 use Rattle.item_build.proofs.bins.first_bytes.Given as goal
 

@@ -1,4 +1,4 @@
-use Rattle.std.proofs.Common.{◌+◌, ◌-◌, take, arith, lt-ltb}
+use Rattle.std.proofs.Common.{take, lt-ltb}
 use Rattle.item_build.proofs.Turned.Makes.{long-word, short-word}
 use Rattle.item_build.proofs.putting.bin_word.Goals as goal
 

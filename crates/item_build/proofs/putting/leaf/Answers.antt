@@ -1,8 +1,6 @@
-use Rattle.std.proofs.Common.{◌≡◌, ◌^◌, ◌<◌, Option, Some, None, IfSome, length, refl, sym, subst, arith}
+use Rattle.std.proofs.Common.{IfSome, length, refl, sym, subst}
 use Rattle.plain_term.specs.declared.item.Item.{Item}
-use Rattle.plain_term.specs.declared.item.Item.TheVariants as item
-use Rattle.term_words.specs.Object.{IsSmallAs}
-use Rattle.term_words.proofs.ByKind.Makes.{stands-atom, stands-nil, stands-pid, stands-small}
+use Rattle.term_words.proofs.ByKind.Makes.{stands-atom, stands-nil, stands-pid}
 use Rattle.item_build.specs.Building.{FitsWord, IsLeaf}
 use Rattle.item_build.proofs.Turned.Makes.{int-kept, leaf-small}
 use Rattle.item_build.proofs.putting.leaf.Goals as goal

@@ -1,4 +1,4 @@
-use Rattle.std.proofs.Common.{◌≡◌, ◌+◌, ◌-◌, Bool, false, List, ◌∷◌, if◌then◌else◌, length, take, drop, sym, ◌∙◌, subst, arith}
+use Rattle.std.proofs.Common.{◌≡◌, ◌+◌, ◌-◌, Bool, false, ◌∷◌, if◌then◌else◌, length, take, drop, sym, ◌∙◌, subst, arith}
 use Rattle.std.proofs.lemmas.List.{length-take}
 use Rattle.term_words.specs.Role.{always}
 use Rattle.item_build.specs.Reading.{all_of, is_byte, parts_after, tree_where}

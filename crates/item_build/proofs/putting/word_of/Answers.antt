@@ -1,14 +1,14 @@
-use Rattle.std.proofs.Common.{◌≡◌, true, ◌<◌, ◌+◌, ◌-◌, ◌*◌, ◌≤◌, length, sym, ◌∙◌, ap, subst, arith, slice_index_or}
+use Rattle.std.proofs.Common.{◌≡◌, true, ◌<◌, ◌+◌, ◌-◌, ◌*◌, ◌≤◌, length, sym, ◌∙◌, ap, subst, arith}
 use Rattle.plain_term.specs.declared.item.Item.{Item}
 use Rattle.plain_term.specs.Tree.{Trees}
 use Rattle.plain_term.specs.Tree.{Tree as tree}
-use Rattle.term_words.proofs.ByKind.Makes.{all-length, stands-atom, stands-nil, stands-pid}
+use Rattle.term_words.proofs.ByKind.Makes.{all-length}
 use Rattle.term_tags.specs.declared.kinds.TheConstants.{PLACES}
 use Rattle.term_build.specs.Taken.{IsFree}
 use Rattle.item_build.specs.Reading.{IsItem, bytes_after, bytes_led, cons_of, is_long, long_bins, own_words, paired, parts_after, tree_with}
 use Rattle.item_build.specs.Building.{CanPut, HasNoBigKey, HolderStands, MarkBuilt, UsesSome}
 use Rattle.item_build.proofs.Turned.Marks.{first-two, paired-few, twos-stand}
-use Rattle.item_build.proofs.Turned.Makes.{built-mark, can-map, fewer-free, int-kept, int-mark, keys-within, there-mark}
+use Rattle.item_build.proofs.Turned.Makes.{built-mark, can-map, fewer-free, int-kept, int-mark, keys-within}
 use Rattle.item_build.proofs.Meaning.Whole.{led-within}
 use Rattle.item_build.proofs.putting.word_of.Goals as goal
 
