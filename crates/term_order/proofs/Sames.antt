@@ -24,7 +24,7 @@ use Rattle.term_order.specs.Compared.{Compares, answer_of}
 use Rattle.std.specs.declared.cmp.Ordering.TheVariants as ordering
 use Rattle.term_order.specs.Runs.{AreBoth, PassedBoth, PassesBoth, is_beyond_after}
 use Rattle.term_order.proofs.Passing.{beyond-after}
-use Rattle.term_order.specs.Same.{IsOne, FindsOne, AreOne, FindsRow, AreRows, AreMaps, FindsMap}
+use Rattle.term_order.specs.Same.{IsOne, FindsOne, AreOne, FindsRow, AreTwoRows, AreMaps, FindsMap}
 
 -- One immediate.
 
@@ -95,7 +95,8 @@ one-boxed mem x y most left head some a b hx tuple hy found = record {
       let (us, eu) = shape-tuple u y (get_or mem (y / 4) 0) (told c shared mem y u r) b (omega (arith, hy, tuple)) in
       let P : Tree → Type 0 = λ z. Stands c shared mem x z in
       let Q : Tree → Type 0 = λ z. Stands c shared mem y z in
-      let here : IsOne shared (Tuple ts) (Tuple us) most left = one-tuple c shared mem x y most left (head / 64) ts us some found (omega (arith, hx)) (omega (arith, hy)) (subst P et s) (subst Q eu r) in
+      let here : IsOne shared (Tuple ts) (Tuple us) most left = one-tuple c shared mem x y most left (head / 64) ts us some found (omega (arith, hx)) (omega (arith, hy)) (subst P et s)
+      (subst Q eu r) in
       rw (et, eu) here;
 }
 
@@ -154,7 +155,7 @@ map-near mem x y n =
     (omega (arith, a.keys_within), omega (arith, b.keys_within))
 
 pub rows-keys : (mem : List ℕ) (x y len : ℕ) → AreMaps mem x y → get_or mem (x / 4 + 1) 0 ≡ len → get_or mem (y / 4 + 1) 0 ≡ len
-    → AreRows mem (get_or mem (x / 4 + 2) 0 / 4 + 1) (get_or mem (y / 4 + 2) 0 / 4 + 1) len
+    → AreTwoRows mem (get_or mem (x / 4 + 2) 0 / 4 + 1) (get_or mem (y / 4 + 2) 0 / 4 + 1) len
 rows-keys mem x y len n ex ey =
     let a = has-rows always n.shared mem x n.first n.first_stands in
     let b = has-rows always n.shared mem y n.second n.second_stands in
@@ -171,7 +172,7 @@ rows-keys mem x y len n ex ey =
     }
 
 pub rows-values : (mem : List ℕ) (x y len : ℕ) → AreMaps mem x y → get_or mem (x / 4 + 1) 0 ≡ len → get_or mem (y / 4 + 1) 0 ≡ len
-    → AreRows mem (x / 4 + 3) (y / 4 + 3) len
+    → AreTwoRows mem (x / 4 + 3) (y / 4 + 3) len
 rows-values mem x y len n ex ey =
     let a = has-rows always n.shared mem x n.first n.first_stands in
     let b = has-rows always n.shared mem y n.second n.second_stands in
@@ -250,7 +251,7 @@ row-more mem p q n most left after some less one rest = record {
 
 -- What the calls ask for.
 
-pub rows-list : (mem : List ℕ) (x y : ℕ) → AreBoth mem x y → x % 4 ≡ 1 → y % 4 ≡ 1 → AreRows mem (x / 4) (y / 4) 2
+pub rows-list : (mem : List ℕ) (x y : ℕ) → AreBoth mem x y → x % 4 ≡ 1 → y % 4 ≡ 1 → AreTwoRows mem (x / 4) (y / 4) 2
 rows-list mem x y n a b =
     let (h, v, et) = shape-cons n.first x (get_or mem (x / 4) 0) (told always n.shared mem x n.first n.first_stands) a in
     let (k, w, eu) = shape-cons n.second y (get_or mem (y / 4) 0) (told always n.shared mem y n.second n.second_stands) b in
@@ -271,7 +272,7 @@ rows-list mem x y n a b =
     }
 
 pub rows-boxed : (mem : List ℕ) (x y head : ℕ) → AreBoth mem x y → x % 4 ≡ 2 → y % 4 ≡ 2 → head ≡ get_or mem (x / 4) 0 → head % 64 ≡ 0 → get_or mem (y / 4) 0 ≡ head
-    → AreRows mem (x / 4 + 1) (y / 4 + 1) (head / 64)
+    → AreTwoRows mem (x / 4 + 1) (y / 4 + 1) (head / 64)
 rows-boxed mem x y head n a b hx tuple hy =
     let (ts, et) = shape-tuple n.first x (get_or mem (x / 4) 0) (told always n.shared mem x n.first n.first_stands) a (omega (arith, hx, tuple)) in
     let (us, eu) = shape-tuple n.second y (get_or mem (y / 4) 0) (told always n.shared mem y n.second n.second_stands) b (omega (arith, hy, tuple)) in
@@ -292,7 +293,7 @@ rows-boxed mem x y head n a b hx tuple hy =
     }
 
 first-two : (mem : List ℕ) (p q n : ℕ) (shared : List (List ℕ)) (ts us : Trees) → 0 < n → RowStands always shared mem p ts → RowStands always shared mem q us → trees_len ts ≡ n → trees_len us ≡ n
-    → p + n ≤ length mem → q + n ≤ length mem → AreBoth mem (get_or mem p 0) (get_or mem q 0) × AreRows mem (p + 1) (q + 1) (n - 1)
+    → p + n ≤ length mem → q + n ≤ length mem → AreBoth mem (get_or mem p 0) (get_or mem q 0) × AreTwoRows mem (p + 1) (q + 1) (n - 1)
 first-two mem p q n shared end us some s r a b v w = absurd (omega (arith, a, some))
 first-two mem p q n shared (t ▹ ts) end some s r a b v w = absurd (omega (arith, b, some))
 first-two mem p q n shared (t ▹ ts) (u ▹ us) some s r a b v w =
@@ -312,7 +313,7 @@ first-two mem p q n shared (t ▹ ts) (u ▹ us) some s r a b v w =
       },
     )
 
-pub rows-on : (mem : List ℕ) (p q n : ℕ) → 0 < n → AreRows mem p q n → AreBoth mem (get_or mem p 0) (get_or mem q 0) × AreRows mem (p + 1) (q + 1) (n - 1)
+pub rows-on : (mem : List ℕ) (p q n : ℕ) → 0 < n → AreTwoRows mem p q n → AreBoth mem (get_or mem p 0) (get_or mem q 0) × AreTwoRows mem (p + 1) (q + 1) (n - 1)
 rows-on mem p q n some k = first-two mem p q n k.shared k.firsts k.seconds some k.first_stands k.second_stands k.first_len k.second_len k.first_within k.second_within
 
 -- What is found to be one is within the walk limit, and is the same.

@@ -28,7 +28,7 @@ pub record FindsRow (mem : List ℕ) (p q n most left : ℕ) : Type 0 where
       → trees_len ts ≡ n → trees_len us ≡ n → AreOne shared ts us most left
 
 -- n words from one place and n from another stand for trees with one list of shared binaries.
-pub record AreRows (mem : List ℕ) (p q n : ℕ) : Type 0 where
+pub record AreTwoRows (mem : List ℕ) (p q n : ℕ) : Type 0 where
   pub shared : List (List ℕ)
   pub firsts : Trees
   pub seconds : Trees

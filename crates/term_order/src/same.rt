@@ -1,7 +1,7 @@
 // Small terms that are found to be the same without a walk.
 ghost use Rattle.std.specs.Prelude.{◌≡◌, ◌-◌, ◌<◌, ◌≤◌, true};
 ghost use Rattle.term_order.specs.Runs.{AreBoth};
-ghost use Rattle.term_order.specs.Same.{FindsOne, FindsMap, AreMaps, FindsRow, AreRows};
+ghost use Rattle.term_order.specs.Same.{FindsOne, FindsMap, AreMaps, FindsRow, AreTwoRows};
 
 use word_mem::WordMem;
 
@@ -83,7 +83,7 @@ fn same_map(mem: &WordMem, x: u64, y: u64, most: u64) -> u64
 // The same of `n` words side by side from each of two places.
 #[cycle(same)]
 fn same_row(mem: &WordMem, p: u64, q: u64, n: u64, most: u64) -> u64
-    requires { AreRows mem.now p q n }
+    requires { AreTwoRows mem.now p q n }
     ensures fewer { result ≤ most }
     ensures same { 0 < result → FindsRow mem.now p q n most result }
 {
