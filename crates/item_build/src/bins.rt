@@ -166,7 +166,8 @@ fn lay_holder(mem: &mut WordMem, room: &mut Room, making: &mut Making, rec: u64)
     requires serials { making.old.serial + 1 < 2 ^ 64 }
     requires words { room.old.top + 6 ≤ room.old.end }
     requires records { HasRecords room.old mem.old (rec ∷ []) making.old.serial 1 }
-    ensures laid { (c : ℕ → ℕ → Bool) (shared : List (List ℕ)) → IsFree c room.old.top room.old.end → RecordsWait c shared mem.old (rec ∷ []) making.old.serial 1
+    ensures laid { (c : ℕ → ℕ → Bool) (shared : List (List ℕ)) → IsFree c room.old.top room.old.end
+        → RecordsWait c shared mem.old (rec ∷ []) making.old.serial 1
         → OverBins c shared room.old.top room.new.top mem.old mem.new (rec ∷ []) making.old making.new 1 }
     ensures room { room.new ≡ record { start = room.old.start; top = room.old.top + 6; end = room.old.end } }
     ensures serial { making.new.serial ≡ making.old.serial + 1 }

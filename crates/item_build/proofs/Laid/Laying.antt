@@ -324,7 +324,12 @@ module _ (c : ℕ → ℕ → Bool) (shared : List (List ℕ)) (top size rec lim
         | inl fine ↦ fine
         | inr past ↦
             let role = record-role with_record m1 v n top s (omega (arith, low)) past in
-            absurd (elim (where-roles top role.0 role.1.1) [ inl (old, inl under) ↦ omega (arith, under) | inl (old, inr high) ↦ omega (arith, high, fits, ends) | inr inner ↦ omega (arith, inner.0, fits) ])
+            absurd (elim (where-roles top role.0 role.1.1) [
+              | inl (old, inl under) ↦ omega (arith, under)
+              | inl (old, inr high) ↦ omega (arith, high, fits, ends)
+              | inr inner ↦ omega
+                  (arith, inner.0, fits)
+            ])
       ]
 
   old-record : (v n : ℕ) → IsRecord with_record m1 v n → ((v < top) × (v + n ≤ top)) ⊎ (limit ≤ v) → IsRecord c m0 v n × (count_in m1 v ≡ count_in m0 v)

@@ -19,28 +19,32 @@ lay_record-requires-clause-inside c =
 pub lay_record-requires-clause-serials : goal.lay_record-requires-clause-serials
 lay_record-requires-clause-serials c =
     let long : is_long (get_or c.args.code.now c.loop-i.i (Int (pos 0))) ≡ true = sym c.is_long.ensures ∙ c.if-is_long.true in
-    let few = count-fits c.loop-i.i c.loop-i.count (Int (pos 0)) c.args.code.now c.args.serial c.args.room.now c.loop-i.room c.args.mem.now c.loop-i.mem c.args.row.now c.loop-i.row c.loop-i-test.true long
+    let few = count-fits c.loop-i.i c.loop-i.count (Int (pos 0)) c.args.code.now c.args.serial c.args.room.now c.loop-i.room c.args.mem.now c.loop-i.mem c.args.row.now c.loop-i.row
+    c.loop-i-test.true long
     c.loop-i.invariant c.requires.enough in
     omega (arith, few.1, c.requires.serials)
 
 pub overflow_add-serial : goal.overflow_add-serial
 overflow_add-serial c =
     let long : is_long (get_or c.args.code.now c.loop-i.i (Int (pos 0))) ≡ true = sym c.is_long.ensures ∙ c.if-is_long.true in
-    let few = count-fits c.loop-i.i c.loop-i.count (Int (pos 0)) c.args.code.now c.args.serial c.args.room.now c.loop-i.room c.args.mem.now c.loop-i.mem c.args.row.now c.loop-i.row c.loop-i-test.true long
+    let few = count-fits c.loop-i.i c.loop-i.count (Int (pos 0)) c.args.code.now c.args.serial c.args.room.now c.loop-i.room c.args.mem.now c.loop-i.mem c.args.row.now c.loop-i.row
+    c.loop-i-test.true long
     c.loop-i.invariant c.requires.enough in
     omega (arith, few.1, c.requires.serials)
 
 pub offset_bounds-row-count : goal.offset_bounds-row-count
 offset_bounds-row-count c =
     let long : is_long (get_or c.args.code.now c.loop-i.i (Int (pos 0))) ≡ true = sym c.is_long.ensures ∙ c.if-is_long.true in
-    let few = count-fits c.loop-i.i c.loop-i.count (Int (pos 0)) c.args.code.now c.args.serial c.args.room.now c.loop-i.room c.args.mem.now c.loop-i.mem c.args.row.now c.loop-i.row c.loop-i-test.true long
+    let few = count-fits c.loop-i.i c.loop-i.count (Int (pos 0)) c.args.code.now c.args.serial c.args.room.now c.loop-i.room c.args.mem.now c.loop-i.mem c.args.row.now c.loop-i.row
+    c.loop-i-test.true long
     c.loop-i.invariant c.requires.enough in
     omega (arith, few.1, c.requires.serials)
 
 pub bounds-row-count : goal.bounds-row-count
 bounds-row-count c =
     let long : is_long (get_or c.args.code.now c.loop-i.i (Int (pos 0))) ≡ true = sym c.is_long.ensures ∙ c.if-is_long.true in
-    let few = count-fits c.loop-i.i c.loop-i.count (Int (pos 0)) c.args.code.now c.args.serial c.args.room.now c.loop-i.room c.args.mem.now c.loop-i.mem c.args.row.now c.loop-i.row c.loop-i-test.true long
+    let few = count-fits c.loop-i.i c.loop-i.count (Int (pos 0)) c.args.code.now c.args.serial c.args.room.now c.loop-i.room c.args.mem.now c.loop-i.mem c.args.row.now c.loop-i.row
+    c.loop-i-test.true long
     c.loop-i.invariant c.requires.enough in
     few.0
 
@@ -80,7 +84,8 @@ loop-i-preserved c =
 
 pub returns-clause-laid : goal.returns-clause-laid
 returns-clause-laid c = λ k shared free len.
-    all-recorded c.loop-i.i c.loop-i.count c.args.code.now c.args.serial c.args.room.now c.loop-i.room c.args.mem.now c.loop-i.mem c.args.row.now c.loop-i.row c.loop-i-test.false c.loop-i.invariant k
+    all-recorded c.loop-i.i c.loop-i.count c.args.code.now c.args.serial c.args.room.now c.loop-i.room c.args.mem.now c.loop-i.mem c.args.row.now c.loop-i.row c.loop-i-test.false
+    c.loop-i.invariant k
     shared free len
 
 pub returns-clause-count : goal.returns-clause-count

@@ -27,7 +27,9 @@ put_items-requires-clause-held c =
     omega (arith, c.requires.words, c.requires.count, c.lay_holders.ensures.front, c.lay_holders.ensures.leaves.same_end) in
     let h = c.requires.finds.parts in
     let r = ready h.test h.shared c.args.code.now c.args.room.now c.lay_holders.new.room c.args.mem.now c.lay_holders.new.mem c.args.scratch.now c.args.held.now h.trees c.args.making.now
-    c.lay_holders.new.making c.args.n (own_words_of c.args.code.now) c.requires.count (c.lay_holders.ensures.laid h.test (h.shared ++ bins_of c.args.code.now) h.free c.requires.finds.waiting) c.lay_holders.ensures.leaves h.free c.lay_holders.ensures.front h.serials fits h.standing in
+    c.lay_holders.new.making c.args.n (own_words_of c.args.code.now) c.requires.count
+    (c.lay_holders.ensures.laid h.test (h.shared ++ bins_of c.args.code.now) h.free c.requires.finds.waiting) c.lay_holders.ensures.leaves h.free c.lay_holders.ensures.front h.serials fits
+    h.standing in
     record { test = r.test; shared = h.shared ++ bins_of c.args.code.now; trees = h.trees; free = r.free; standing = r.standing; holders = r.holders; named = h.named }
 
 pub returns-then-w-ne-WIDE-clause-builds : goal.returns-then-w-ne-WIDE-clause-builds
@@ -35,7 +37,8 @@ returns-then-w-ne-WIDE-clause-builds c = λ k shared trees free len held waiting
     let fits : c.lay_holders.new.room.top + own_words_of c.args.code.now ≤ c.lay_holders.new.room.end =
     omega (arith, c.requires.words, c.requires.count, c.lay_holders.ensures.front, c.lay_holders.ensures.leaves.same_end) in
     let r = ready k shared c.args.code.now c.args.room.now c.lay_holders.new.room c.args.mem.now c.lay_holders.new.mem c.args.scratch.now c.args.held.now trees c.args.making.now
-    c.lay_holders.new.making c.args.n (own_words_of c.args.code.now) c.requires.count (c.lay_holders.ensures.laid k (shared ++ bins_of c.args.code.now) free waiting) c.lay_holders.ensures.leaves free c.lay_holders.ensures.front len fits held in
+    c.lay_holders.new.making c.args.n (own_words_of c.args.code.now) c.requires.count (c.lay_holders.ensures.laid k (shared ++ bins_of c.args.code.now) free waiting)
+    c.lay_holders.ensures.leaves free c.lay_holders.ensures.front len fits held in
     let S : List (List ℕ) = shared ++ bins_of c.args.code.now in
     let b = c.in-Some.ensures.reads r.test S trees r.free r.standing r.holders in
     ok-makes k r.test S c.args.room.now c.lay_holders.new.room c.put_items.new.room c.args.mem.now c.lay_holders.new.mem c.put_items.new.mem c.args.scratch.now c.args.making.now
@@ -47,7 +50,8 @@ returns-else-w-ne-WIDE-clause-builds c = λ k shared trees free len held waiting
     let fits : c.lay_holders.new.room.top + own_words_of c.args.code.now ≤ c.lay_holders.new.room.end =
     omega (arith, c.requires.words, c.requires.count, c.lay_holders.ensures.front, c.lay_holders.ensures.leaves.same_end) in
     let r = ready k shared c.args.code.now c.args.room.now c.lay_holders.new.room c.args.mem.now c.lay_holders.new.mem c.args.scratch.now c.args.held.now trees c.args.making.now
-    c.lay_holders.new.making c.args.n (own_words_of c.args.code.now) c.requires.count (c.lay_holders.ensures.laid k (shared ++ bins_of c.args.code.now) free waiting) c.lay_holders.ensures.leaves free c.lay_holders.ensures.front len fits held in
+    c.lay_holders.new.making c.args.n (own_words_of c.args.code.now) c.requires.count (c.lay_holders.ensures.laid k (shared ++ bins_of c.args.code.now) free waiting)
+    c.lay_holders.ensures.leaves free c.lay_holders.ensures.front len fits held in
     let S : List (List ℕ) = shared ++ bins_of c.args.code.now in
     let b = c.in-Some.ensures.reads r.test S trees r.free r.standing r.holders in
     wide-makes k r.test S c.args.room.now c.lay_holders.new.room c.put_items.new.room c.args.room.now c.args.mem.now c.lay_holders.new.mem c.put_items.new.mem c.args.scratch.now c.args.making.now
@@ -58,7 +62,8 @@ returns-in-None-clause-builds c = λ k shared trees free len held waiting.
     let fits : c.lay_holders.new.room.top + own_words_of c.args.code.now ≤ c.lay_holders.new.room.end =
     omega (arith, c.requires.words, c.requires.count, c.lay_holders.ensures.front, c.lay_holders.ensures.leaves.same_end) in
     let r = ready k shared c.args.code.now c.args.room.now c.lay_holders.new.room c.args.mem.now c.lay_holders.new.mem c.args.scratch.now c.args.held.now trees c.args.making.now
-    c.lay_holders.new.making c.args.n (own_words_of c.args.code.now) c.requires.count (c.lay_holders.ensures.laid k (shared ++ bins_of c.args.code.now) free waiting) c.lay_holders.ensures.leaves free c.lay_holders.ensures.front len fits held in
+    c.lay_holders.new.making c.args.n (own_words_of c.args.code.now) c.requires.count (c.lay_holders.ensures.laid k (shared ++ bins_of c.args.code.now) free waiting)
+    c.lay_holders.ensures.leaves free c.lay_holders.ensures.front len fits held in
     let S : List (List ℕ) = shared ++ bins_of c.args.code.now in
     big-makes k S c.args.room.now c.args.room.now c.args.mem.now c.put_items.new.mem c.args.scratch.now c.args.making.now c.args.making.now c.args.n
     (has_big_item c.args.names.now S trees c.args.code.now) (read c.args.names.now S trees c.args.code.now) (c.in-None.ensures.reads r.test S trees r.free r.standing r.holders)
