@@ -4,3 +4,4 @@ pub mod Opening
 pub mod Taking
 pub mod Running
 pub mod Going
+pub mod Shortly

@@ -6,5 +6,7 @@ mod levels;
 mod own;
 mod printing;
 mod runs;
+mod short;
 
 pub use printing::print;
+pub use short::print_short;

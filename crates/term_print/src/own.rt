@@ -137,21 +137,21 @@ fn put_fun<K: Sink>(names: &AtomNames, name: u64, arity: u64, sink: &mut K) -> R
 }
 
 // What a list begins with, or goes on with after a part.
-fn list_begin(tail: bool) -> &'static [u8]
+pub fn list_begin(tail: bool) -> &'static [u8]
     ensures { result.now ≡ list_begun tail }
 {
     if tail { b"," } else { b"[" }
 }
 
 // A list without parts, or the end of one with parts.
-fn list_end(tail: bool) -> &'static [u8]
+pub fn list_end(tail: bool) -> &'static [u8]
     ensures { result.now ≡ list_ended tail }
 {
     if tail { b"]" } else { b"[]" }
 }
 
 // What a tuple begins with.
-fn tuple_begin(tail: bool) -> &'static [u8]
+pub fn tuple_begin(tail: bool) -> &'static [u8]
     ensures { result.now ≡ tuple_begun tail }
 {
     if tail { b"|{" } else { b"{" }
