@@ -33,7 +33,7 @@ use Rattle.term_walk.specs.declared.measured.Measured.TheVariants.{Within, Beyon
 use Rattle.term_order.specs.Compared.{AreNamed, Compares, answer_of, compared}
 use Rattle.term_order.specs.declared.compared.Compared.{Compared}
 use Rattle.term_order.specs.declared.compared.Compared.TheVariants as answer
-use Rattle.term_print.specs.Printed.{CanPrint}
+use Rattle.term_print.specs.Printed.{CanBegin, CanPrint}
 use Rattle.term_words.specs.Role.{always}
 use Rattle.heaps_api.proofs.Naming.{named-more}
 use Rattle.std.specs.Prelude.{IsErr}
@@ -94,6 +94,14 @@ module _ {H : Type 0} (m : Meaning H) (b : Verbs H) (s : State) (o : VerbsStand 
     (mem : List ℕ) (same : mem ≡ m.mem b.heaps) where
   pub standing : Stands always s.shared mem w (register r.0 held.process)
   standing = rw same (stands-always (m.test b.named b.heaps s.shared s.processes o.processes.is seat.row) s.shared (m.mem b.heaps) b.named w (register r.0 held.process) held.held)
+
+  pub can-begin : (names : List (List ℕ)) → b.named ≤ length names → CanBegin mem names w
+  can-begin names more = record {
+    shared = s.shared;
+    now = register r.0 held.process;
+    standing = standing;
+    named = named-more b.named (length names) more (register r.0 held.process) held.held.names;
+  }
 
   pub is-term : IsTerm mem w
   is-term = record { shared = s.shared; tree = register r.0 held.process; standing = standing }

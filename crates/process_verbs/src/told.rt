@@ -22,7 +22,7 @@ use plain_machine::{Measure, Refusal, Reg};
 use space_api::{Seat, Stop};
 use std::cmp::Ordering;
 use term_order::{Compared, compare};
-use term_print::print;
+use term_print::{print, print_short};
 use term_walk::{Measured, is_beyond, measure};
 
 impl<H: Heaps> Verbs<H> {
@@ -94,6 +94,12 @@ impl<H: Heaps> Verbs<H> {
     {
         let mem = self.heaps.mem();
         let w = self.word(seat, s);
+        if let Some(printed) = print_short(mem, names, w, sink) {
+            return match printed {
+                Ok(()) => Ok(()),
+                Err(_) => Err(Stop::Fault),
+            };
+        }
         if is_beyond(mem, w) {
             return Err(Stop::Big);
         }
